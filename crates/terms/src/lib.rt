@@ -4,9 +4,13 @@ ghost use Rattle.terms.specs.Codes.{refusal-code, refusal-of, Codes-name-refus
 
 /// The verbs that a participant may have. A request may hold any other number: it is then refused.
 pub const CLAIM: u8 = 1;
+
 pub const RETURN: u8 = 2;
+
 pub const MOVE: u8 = 3;
+
 pub const HANG: u8 = 4;
+
 pub const LIFT: u8 = 5;
 
 /// The step of a saga.
