@@ -1,9 +1,9 @@
 -- A call on the participant of an index, the first being 1. Where there is none, nothing stands and nothing is known.
 use mathlib.Core.Bool.{Bool, true, false, cond}
 use mathlib.Core.List.{List, [], _∷_}
-use Prim.Native.Nat.{ℕ, zero, suc, _-_}
+use Prim.Native.Nat.{ℕ, zero, suc, _-_, min}
 use lib.Dec.{eqb}
-use lib.ListN.{getD}
+use lib.ListN.{length, getD}
 use Rattle.std.specs.declared.option.Option.{Option}
 use Rattle.terms.specs.declared.Key.{Key}
 use Rattle.terms.specs.declared.Entry.{Entry}
@@ -13,6 +13,10 @@ use Rattle.participants.specs.Party.{Party, do-answer, do-after, undo-after, se
 -- a participant with no verbs and no cells: it refuses every request with 40
 abbrev pub nobody : Party
 nobody = record { verbs = []; cells = []; entries = [] }
+
+-- how many participants an index of one byte can name
+abbrev pub count-of : List Party → ℕ
+count-of ps = min 255 (length ps)
 
 abbrev pub party-at : List Party → ℕ → Party
 party-at ps w = cond (eqb w 0) nobody (getD ps (w - 1) nobody)

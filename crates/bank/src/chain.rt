@@ -1,55 +1,51 @@
-// A bank is empty, or a participant put before a bank.
+//! A bank is empty, or a participant put before a bank.
 ghost use mathlib.Core.Path.{_≡_};
 ghost use mathlib.Core.List.{List, [], _∷_};
 ghost use Prim.Native.Nat.{ℕ, _+_, _≤_};
 use crate::bank::Bank;
 use participants::answer::Answer;
-use participants::kinds::Ledger;
-use participants::kinds::Registry;
-use participants::kinds::Stock;
 use participants::participant::Participant;
 use terms::Entry;
 use terms::Key;
 use terms::Refusal;
 
+/// The empty bank.
 #[derive(Drop)]
 pub struct NoParticipants;
 
+/// A participant, with the index 1, and a bank whose indices follow.
 #[derive(Drop)]
 pub struct With<P: Participant, B: Bank> {
     pub first: P,
     pub rest: B,
 }
 
-// The site's bank: stock 1, ledger 2, registry 3.
-pub type SiteBank = With<Stock, With<Ledger, With<Registry, NoParticipants>>>;
-
 pub impl Bank for NoParticipants as EmptyBank {
     ghost parties = { λ _. [] };
 
     ghost writes = { λ _. 0 };
 
-    fn perform(&mut self, _who: u8, _entry: Entry) -> Answer {
+    fn perform(&mut self, _participant: u8, _entry: Entry) -> Answer {
         Answer::Refused(Refusal::Unfit)
     }
 
-    fn undo(&mut self, _who: u8, _key: Key) -> bool {
+    fn undo(&mut self, _participant: u8, _key: Key) -> bool {
         false
     }
 
-    fn settle(&mut self, _who: u8, _key: Key) -> bool {
+    fn settle(&mut self, _participant: u8, _key: Key) -> bool {
         false
     }
 
-    fn has(&self, _who: u8) -> bool {
-        false
+    fn count(&self) -> u8 {
+        0
     }
 
-    fn value(&self, _who: u8, _cell: u64) -> Option<u32> {
+    fn value(&self, _participant: u8, _cell: u64) -> Option<u32> {
         None
     }
 
-    fn stands(&self, _who: u8, _key: Key) -> bool {
+    fn stands(&self, _participant: u8, _key: Key) -> bool {
         false
     }
 }
@@ -59,51 +55,47 @@ pub impl<P: Participant, B: Bank> Bank for With<P, B> as WithBank {
 
     ghost writes = { λ w. P·Participant .writes (w .first) + B·Bank .writes (w .rest) };
 
-    fn perform(&mut self, who: u8, entry: Entry) -> Answer {
-        match who {
+    fn perform(&mut self, participant: u8, entry: Entry) -> Answer {
+        match participant {
             0 => Answer::Refused(Refusal::Unfit),
             1 => self.first.perform(entry),
-            _ => self.rest.perform(who - 1, entry),
+            _ => self.rest.perform(participant - 1, entry),
         }
     }
 
-    fn undo(&mut self, who: u8, key: Key) -> bool {
-        match who {
+    fn undo(&mut self, participant: u8, key: Key) -> bool {
+        match participant {
             0 => false,
             1 => self.first.undo(key),
-            _ => self.rest.undo(who - 1, key),
+            _ => self.rest.undo(participant - 1, key),
         }
     }
 
-    fn settle(&mut self, who: u8, key: Key) -> bool {
-        match who {
+    fn settle(&mut self, participant: u8, key: Key) -> bool {
+        match participant {
             0 => false,
             1 => self.first.settle(key),
-            _ => self.rest.settle(who - 1, key),
+            _ => self.rest.settle(participant - 1, key),
         }
     }
 
-    fn has(&self, who: u8) -> bool {
-        match who {
-            0 => false,
-            1 => true,
-            _ => self.rest.has(who - 1),
-        }
+    fn count(&self) -> u8 {
+        self.rest.count().saturating_add(1)
     }
 
-    fn value(&self, who: u8, cell: u64) -> Option<u32> {
-        match who {
+    fn value(&self, participant: u8, cell: u64) -> Option<u32> {
+        match participant {
             0 => None,
             1 => self.first.value(cell),
-            _ => self.rest.value(who - 1, cell),
+            _ => self.rest.value(participant - 1, cell),
         }
     }
 
-    fn stands(&self, who: u8, key: Key) -> bool {
-        match who {
+    fn stands(&self, participant: u8, key: Key) -> bool {
+        match participant {
             0 => false,
             1 => self.first.stands(key),
-            _ => self.rest.stands(who - 1, key),
+            _ => self.rest.stands(participant - 1, key),
         }
     }
 }
