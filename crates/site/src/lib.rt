@@ -1,0 +1,3 @@
+//! The product's participants: output groups, feeders and tags, and their bank.
+pub mod kinds;
+mod listing;
