@@ -18,7 +18,9 @@ use terms::Key;
 use terms::Request;
 
 const STOCK: u8 = 1;
+
 const LEDGER: u8 = 2;
+
 const REGISTRY: u8 = 3;
 
 const SAGA: u32 = 5;
