@@ -1,0 +1,5 @@
+pub mod Bares
+pub mod Pushes
+pub mod Readings
+pub mod Said
+pub mod Tabled

@@ -1,0 +1,32 @@
+// The open sagas, each with a note of the table's owner that the law never looks at, and the highest number begun.
+use crate::event::Outcome;
+use crate::event::Phase;
+use crate::row::Row;
+use bounded::Bounded;
+
+pub mod methods;
+
+pub struct Open<V> {
+    row: Row,
+    note: V,
+}
+
+impl<V: Copy> Copy for Open<V> {}
+
+pub struct Table<V> {
+    top: u32,
+    rows: Bounded<Open<V>, 8>,
+}
+
+impl<V: Copy> Copy for Table<V> {}
+
+/// What is read of an open saga: where it stands, its last step's number, how many marks it has, its last outcome, the note.
+pub struct View<V> {
+    pub phase: Phase,
+    pub last: u8,
+    pub marks: usize,
+    pub outcome: Outcome,
+    pub note: V,
+}
+
+impl<V: Copy> Copy for View<V> {}
