@@ -1,6 +1,7 @@
 pub mod Bare
 pub mod Coming
 pub mod Events
+pub mod Keeps
 pub mod Law
 pub mod Means
 pub mod Sagas

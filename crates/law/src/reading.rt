@@ -1,5 +1,6 @@
 //! The law's reading of a list of records.
 ghost use mathlib.Core.Path.{_≡_};
+ghost use Rattle.law.specs.Keeps.{Readings};
 ghost use Rattle.law.specs.Sagas.{reading, in-bank};
 ghost use Rattle.law.specs.Tables.{table-read};
 use crate::event::Event;
@@ -16,7 +17,8 @@ fn has(participants: u8, index: u8) -> bool
 /// Reads records in a bank of so many participants: the table of the open sagas, each with the note, or the index of
 /// the first record that is not lawful.
 pub fn read<V: Copy>(records: &[Record], participants: u8, note: V) -> Result<Table<V>, usize>
-    ensures { λ r. ⌜ table-read r ≡ reading participants note (now (records .entry)) ⌝ }
+    ensures value { λ r. ⌜ table-read r ≡ reading participants note (now (records .entry)) ⌝ }
+    ensures law { λ _. ⌜ Readings V ⌝ }
 {
     let mut table = Table::new(note);
     for (i, record) in records.iter().enumerate() {
