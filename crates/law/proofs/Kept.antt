@@ -322,9 +322,9 @@ module _ {V : Type 0} where
 
   pub readings : Readings V
   readings = record {
-      keeps = λ n v rs t e. keeps-read n v rs 0 (sagas 0 []) t none-open e;
-      front = λ n v rs more t e. front-read n v rs more 0 (sagas 0 []) t e;
-      within = λ n v rs i e. let w = first-read n v rs [] 0 i (sagas 0 []) e in omega (arith, w .0);
-      first = λ n v rs more i e. first-read n v rs more 0 i (sagas 0 []) e .1;
-      undone-first = λ n v. refl;
-    }
+    keeps = λ n v rs t e. keeps-read n v rs 0 (sagas 0 []) t none-open e;
+    front = λ n v rs more t e. front-read n v rs more 0 (sagas 0 []) t e;
+    within = λ n v rs i e. let w = first-read n v rs [] 0 i (sagas 0 []) e in omega (arith, w .0);
+    first = λ n v rs more i e. first-read n v rs more 0 i (sagas 0 []) e .1;
+    undone-first = λ n v. refl;
+  }

@@ -1,4 +1,4 @@
-// An open saga.
+//! What is kept of an open saga.
 ghost use Prim.Native.Nat.{_+_, _≤_};
 ghost use lib.ListN.{length};
 ghost use Rattle.bounded.specs.Held.{held};
@@ -10,7 +10,8 @@ use bounded::Bounded;
 
 pub mod methods;
 
-pub struct Row {
+/// The steps that stand fit their 32 places, since each was issued and at most 32 are.
+pub(crate) struct Row {
     saga: u32,
     phase: Phase,
     last: u8,

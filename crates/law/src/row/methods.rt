@@ -1,3 +1,4 @@
+//! What each record does to its saga.
 ghost use mathlib.Core.Path.{_≡_};
 ghost use mathlib.Core.Bool.{Bool};
 ghost use Prim.Native.Nat.{ℕ, _+_, _-_, _<_, _≤_};
@@ -17,7 +18,7 @@ use crate::table::View;
 use bounded::Bounded;
 use terms::Request;
 
-// The step to undo next on the way back to a target, if any.
+/// The step to undo next on the way back to a target, if any.
 fn retreating(standing: &Bounded<Step, 32>, goal: u8, depth: u8) -> Phase
     ensures { λ r. ⌜ r ≡ retreat goal depth (held (now (standing .entry))) ⌝ }
 {
@@ -32,7 +33,7 @@ fn retreating(standing: &Bounded<Step, 32>, goal: u8, depth: u8) -> Phase
     }
 }
 
-// The step to settle next, if any.
+/// The step to settle next, if any.
 fn settling(standing: &Bounded<Step, 32>) -> Phase
     ensures { λ r. ⌜ r ≡ finishing (held (now (standing .entry))) ⌝ }
 {
@@ -42,6 +43,7 @@ fn settling(standing: &Bounded<Step, 32>) -> Phase
     }
 }
 
+/// The last step issued when the mark of a depth was set; 0 for depth 0.
 fn mark_of(marks: &Bounded<u8, 8>, depth: u8) -> u8
     ensures { λ r. ⌜ r ≡ target (held (now (marks .entry))) depth ⌝ }
 {
@@ -54,7 +56,7 @@ fn mark_of(marks: &Bounded<u8, 8>, depth: u8) -> u8
     }
 }
 
-// What a saga with a pending step owes besides its standing steps.
+/// What a saga with a pending step owes besides its standing steps.
 fn owes_more(aim: Aim) -> usize
     ensures value { λ r. ⌜ r ≡ owes-more aim ⌝ }
     ensures few { λ r. ⌜ r ≤ 3 ⌝ }
@@ -118,7 +120,7 @@ impl Row {
         }
     }
 
-    // The records that the saga still owes.
+    /// The records that the saga still owes.
     pub(crate) fn owes(&self) -> usize
         ensures value { λ r. ⌜ r ≡ owes (saga-of (now (self .entry))) ⌝ }
         ensures few { λ r. ⌜ r ≤ 35 ⌝ }
@@ -131,7 +133,7 @@ impl Row {
         }
     }
 
-    // Whether the event is lawful; one that is not changes nothing.
+    /// Whether the event is lawful; one that is not changes nothing.
     pub(crate) fn apply(&mut self, event: Event, in_bank: bool) -> bool
         ensures { λ r. ⌜ (r, saga-of (now (self .exit))) ≡ moved «in_bank» (saga-of (now (self .entry))) event ⌝ }
     {

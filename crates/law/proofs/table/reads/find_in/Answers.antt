@@ -7,7 +7,7 @@ use Rattle.bounded.proofs.Laws.{place-end}
 use Rattle.bounded.proofs.Mapped.{mapped-here, mapped-next}
 use Rattle.law.specs.Sagas.{of-saga}
 use Rattle.law.specs.Tables.{open-of}
-use Rattle.law.proofs.table.methods.find_in.Needs as need
+use Rattle.law.proofs.table.reads.find_in.Needs as need
 
 pub returns-then-is-of : need.returns-then-is-of
 returns-then-is-of g c =
