@@ -13,6 +13,20 @@ pub const HANG: u8 = 4;
 
 pub const LIFT: u8 = 5;
 
+/// A group or a feeder as a site lists it.
+#[derive(Clone, Copy)]
+pub struct Level {
+    pub value: u32,
+    pub ceiling: u32,
+}
+
+/// A tag as a site lists it: its name is the number that its bytes are, the first byte highest, with zero bytes up to eight.
+#[derive(Clone, Copy)]
+pub struct Tag {
+    pub name: u64,
+    pub value: u32,
+}
+
 /// The step of a saga.
 #[derive(Clone, Copy, PartialEq, Eq, Debug)]
 pub struct Key {

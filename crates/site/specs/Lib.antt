@@ -1,0 +1,5 @@
+pub mod Listing
+pub mod Opening
+pub mod Kinds
+pub mod Banks
+pub mod Examples
