@@ -20,7 +20,7 @@ use Rattle.law.specs.declared.event.Event.{Event}
 use Rattle.law.specs.declared.event.Event.the-variants.{Begin, Intent, Done, Refused, Mark, Join, Back, Undone, Finish, Settled, Unlawful}
 use Rattle.law.specs.Events.{event-of}
 use Rattle.law.specs.Law.{Saga, begun, lawful, next, is-open}
-use Rattle.law.specs.Sagas.{Sagas, sagas, of-saga, placed, may-begin, begins, moves-by, moves, applied, taken, in-bank, renoted, noted, read-from}
+use Rattle.law.specs.Sagas.{Sagas, sagas, of-saga, placed, may-begin, begins, moves-by, moves, applied, taken, renoted, noted, read-from}
 use Rattle.law.specs.Bare.{row-bare, bare}
 
 module _ {V : Type 0} (s : ℕ) where
@@ -72,7 +72,7 @@ Both = Bool × Sagas (Unit {0})
 abbrev both-bare : {V : Type 0} → Bool × Sagas V → Both
 both-bare x = (x .0, bare (x .1))
 
-module _ {V : Type 0} (k : Bool) (s : ℕ) where
+module _ {V : Type 0} (n s : ℕ) where
   begins-bare : (v : V) (t : Sagas V) → begins s tt (bare t) ≡ both-bare (begins s v t)
   begins-bare v t =
       let same : may-begin s (bare t) ≡ may-begin s t = ap (λ j. ltb (t .top) s && (leb s 1000000 && ltb j 8)) (length-map (t .rows) row-bare) in
@@ -82,18 +82,18 @@ module _ {V : Type 0} (k : Bool) (s : ℕ) where
       go true = ap (λ l. (true, sagas s l)) (sym (map-push row-bare (t .rows) (begun s, v)))
       go false = refl
 
-  moves-bare : (e : Event) (t : Sagas V) → moves k s e (bare t) ≡ both-bare (moves k s e t)
-  moves-bare e t = ap (moves-by k s e (bare t)) (first-bare s (t .rows)) ∙ by-it (first (of-saga s) (t .rows))
+  moves-bare : (e : Event) (t : Sagas V) → moves n s e (bare t) ≡ both-bare (moves n s e t)
+  moves-bare e t = ap (moves-by n s e (bare t)) (first-bare s (t .rows)) ∙ by-it (first (of-saga s) (t .rows))
     where
       go : (x : Saga × V) (b : Bool) → _≡_ {A = Both} (cond b (true, sagas (t .top) (placed s (next (x .0) e, tt) (map row-bare (t .rows)))) (false, bare t)) (both-bare (cond b (true, sagas (t .top) (placed s (next (x .0) e, x .1) (t .rows))) (false, t)))
       go x true = ap (λ l. (true, sagas (t .top) l)) (placed-bare s (next (x .0) e, x .1) (t .rows))
       go x false = refl
 
-      by-it : (o : Option (Saga × V)) → moves-by k s e (bare t) (mapped row-bare o) ≡ both-bare (moves-by k s e t o)
+      by-it : (o : Option (Saga × V)) → moves-by n s e (bare t) (mapped row-bare o) ≡ both-bare (moves-by n s e t o)
       by-it None = refl
-      by-it (Some x) = go x (lawful k (x .0) e)
+      by-it (Some x) = go x (lawful n (x .0) e)
 
-  pub applied-bare : (e : Event) (v : V) (t : Sagas V) → applied k s e tt (bare t) ≡ both-bare (applied k s e v t)
+  pub applied-bare : (e : Event) (v : V) (t : Sagas V) → applied n s e tt (bare t) ≡ both-bare (applied n s e v t)
   applied-bare Begin v t = begins-bare v t
   applied-bare (Intent u) v t = moves-bare (Intent u) t
   applied-bare (Done i) v t = moves-bare (Done i) t
@@ -122,7 +122,7 @@ read-push {V} n v i t t′ (x ∷ rs) r e h = go (taken n v t x .0) (read-push n
 pub read-bare : {V : Type 0} (n : ℕ) (v : V) (i : ℕ) (t t′ : Sagas V) (rs : List Record) → read-from n v i t rs ≡ Ok t′ → read-from n tt i (bare t) rs ≡ Ok (bare t′)
 read-bare {V} n v i t t′ [] e = let same : t ≡ t′ = cc in ap (λ (u : Sagas V). Ok (bare u)) same
 read-bare {V} n v i t t′ (x ∷ rs) e =
-    ap (λ (y : Both). cond (y .0) (read-from n tt (i + 1) (y .1) rs) (Err i)) (applied-bare (in-bank n (x .participant)) (x .saga) (event-of x) v t)
+    ap (λ (y : Both). cond (y .0) (read-from n tt (i + 1) (y .1) rs) (Err i)) (applied-bare n (x .saga) (event-of x) v t)
     ∙ go (taken n v t x .0) (read-bare n v (i + 1) (taken n v t x .1) t′ rs) e
   where
     go : (b : Bool) → (read-from n v (i + 1) (taken n v t x .1) rs ≡ Ok t′ → read-from n tt (i + 1) (bare (taken n v t x .1)) rs ≡ Ok (bare t′)) → _≡_ {A = Result (Sagas V) ℕ} (cond b (read-from n v (i + 1) (taken n v t x .1) rs) (Err i)) (Ok t′) → _≡_ {A = Result (Sagas (Unit {0})) ℕ} (cond b (read-from n tt (i + 1) (bare (taken n v t x .1)) rs) (Err i)) (Ok (bare t′))
@@ -170,7 +170,7 @@ module _ {V : Type 0} (P : V → Type 0) (s : ℕ) where
   noted-push y [] p h = (p, tt)
   noted-push y (x ∷ rows) p h = (h .0, noted-push y rows p (h .1))
 
-  noted-moves : (n : Bool) (e : Event) (t : Sagas V) → Noted (t .rows) → Noted (moves n s e t .1 .rows)
+  noted-moves : (n : ℕ) (e : Event) (t : Sagas V) → Noted (t .rows) → Noted (moves n s e t .1 .rows)
   noted-moves n e t h = by-it (first (of-saga s) (t .rows)) (λ x q. noted-first (t .rows) x h q) refl
     where
       go-in : (x : Saga × V) → P (x .1) → (b : Bool) → Noted (cond b (put (of-saga s) (next (x .0) e, x .1) (t .rows)) (cut (of-saga s) (t .rows)))
@@ -192,7 +192,7 @@ module _ {V : Type 0} (P : V → Type 0) (s : ℕ) where
       go true = noted-push (begun s, v) (t .rows) p h
       go false = h
 
-  pub noted-applied : (n : Bool) (e : Event) (v : V) (t : Sagas V) → P v → Noted (t .rows) → Noted (applied n s e v t .1 .rows)
+  pub noted-applied : (n : ℕ) (e : Event) (v : V) (t : Sagas V) → P v → Noted (t .rows) → Noted (applied n s e v t .1 .rows)
   noted-applied n Begin v t p h = noted-begins v t p h
   noted-applied n (Intent u) v t p h = noted-moves n (Intent u) t h
   noted-applied n (Done k) v t p h = noted-moves n (Done k) t h
@@ -208,7 +208,7 @@ module _ {V : Type 0} (P : V → Type 0) (s : ℕ) where
 -- all notes of a reading are the one it was made with
 pub noted-read : {V : Type 0} (P : V → Type 0) (n : ℕ) (v : V) (i : ℕ) (t t′ : Sagas V) (rs : List Record) → P v → All (λ (x : Saga × V). P (x .1)) (t .rows) → read-from n v i t rs ≡ Ok t′ → All (λ (x : Saga × V). P (x .1)) (t′ .rows)
 noted-read {V} P n v i t t′ [] p h e = let same : t ≡ t′ = cc in rw (← same) h
-noted-read {V} P n v i t t′ (x ∷ rs) p h e = go (taken n v t x .0) (noted-read P n v (i + 1) (taken n v t x .1) t′ rs p (noted-applied P (x .saga) (in-bank n (x .participant)) (event-of x) v t p h)) e
+noted-read {V} P n v i t t′ (x ∷ rs) p h e = go (taken n v t x .0) (noted-read P n v (i + 1) (taken n v t x .1) t′ rs p (noted-applied P (x .saga) n (event-of x) v t p h)) e
   where
     go : (b : Bool) → (read-from n v (i + 1) (taken n v t x .1) rs ≡ Ok t′ → All (λ (x : Saga × V). P (x .1)) (t′ .rows)) → _≡_ {A = Result (Sagas V) ℕ} (cond b (read-from n v (i + 1) (taken n v t x .1) rs) (Err i)) (Ok t′) → All (λ (x : Saga × V). P (x .1)) (t′ .rows)
     go true ih q = ih q

@@ -25,8 +25,8 @@ use Rattle.law.specs.declared.event.Aim.the-variants.{Stepping, Retreating, Fi
 use Rattle.law.specs.declared.event.Event.{Event}
 use Rattle.law.specs.declared.event.Event.the-variants.{Begin, Intent, Done, Refused, Mark, Join, Back, Undone, Finish, Settled, Unlawful}
 use Rattle.law.specs.Events.{event-of}
-use Rattle.law.specs.Law.{Saga, begun, lawful, next, is-open, retreat, retreat-by, back-at, retreat-on, finishing, finish-by, target, with-pending, without-last, if-running, if-stepping, if-retreating, if-finishing}
-use Rattle.law.specs.Sagas.{Sagas, sagas, of-saga, placed, may-begin, begins, moves-by, moves, applied, in-bank, taken, read-from, reading}
+use Rattle.law.specs.Law.{Saga, begun, in-bank, lawful, next, is-open, retreat, retreat-by, back-at, retreat-on, finishing, finish-by, target, with-pending, without-last, if-running, if-stepping, if-retreating, if-finishing}
+use Rattle.law.specs.Sagas.{Sagas, sagas, of-saga, placed, may-begin, begins, moves-by, moves, applied, taken, read-from, reading}
 use Rattle.law.specs.Keeps.{Rising, Pends, Sound, Ordered, Keeps, Readings}
 
 no : {X : Type 0} → false ≡ true → X
@@ -106,7 +106,7 @@ undone-pends (Pending (Retreating g d) t) k l ts e o = retreat-pends g d l ts o
 undone-pends (Pending Finishing t) k l ts e o = no e
 
 -- a lawful record that leaves its saga open keeps it sound
-module _ (k : Bool) (s : Saga) (h : Sound s) where
+module _ (n : ℕ) (s : Saga) (h : Sound s) where
   running : (b : Bool) → if-running (s .phase) b ≡ true → b ≡ true
   running b e = by-it (s .phase) e
     where
@@ -115,11 +115,11 @@ module _ (k : Bool) (s : Saga) (h : Sound s) where
       by-it (Pending a t) q = no q
       by-it Closed q = no q
 
-  sound-intent : (t : Step) → lawful k s (Intent t) ≡ true → Sound (next s (Intent t))
+  sound-intent : (t : Step) → lawful n s (Intent t) ≡ true → Sound (next s (Intent t))
   sound-intent t e =
-      let r = running (eqb (t .number) (s .last + 1) && (leb (t .number) 32 && k)) e in
-      let a = both (eqb (t .number) (s .last + 1)) (leb (t .number) 32 && k) r in
-      let b = both (leb (t .number) 32) k (a .1) in
+      let r = running (eqb (t .number) (s .last + 1) && (leb (t .number) 32 && in-bank n (t .participant))) e in
+      let a = both (eqb (t .number) (s .last + 1)) (leb (t .number) 32 && in-bank n (t .participant)) r in
+      let b = both (leb (t .number) 32) (in-bank n (t .participant)) (a .1) in
       let one : t .number ≡ s .last + 1 = grind (arith, a .0) in
       let few : t .number ≤ 32 = grind (arith, b .0) in
       record {
@@ -130,10 +130,10 @@ module _ (k : Bool) (s : Saga) (h : Sound s) where
         pends = (refl, omega arith, rising-below 0 (s .last) (t .number) (s .standing) (omega arith) (h .rises));
       }
 
-  sound-done : (i : ℕ) → lawful k s (Done i) ≡ true → Sound (next s (Done i))
+  sound-done : (i : ℕ) → lawful n s (Done i) ≡ true → Sound (next s (Done i))
   sound-done i e = record { issued = h .issued; rises = stands-next (s .phase) i (s .last) (s .standing) e (h .pends) (h .rises); few-marks = h .few-marks; marked = h .marked; pends = tt }
 
-  sound-mark : lawful k s Mark ≡ true → Sound (next s Mark)
+  sound-mark : lawful n s Mark ≡ true → Sound (next s Mark)
   sound-mark e =
       let r = running (ltb (length (s .marks)) 8) e in
       let few : length (s .marks) < 8 = grind (arith, r) in
@@ -145,8 +145,8 @@ module _ (k : Bool) (s : Saga) (h : Sound s) where
         pends = tt;
       }
 
-  fewer-marks : (n : ℕ) → length (take n (s .marks)) ≤ 8
-  fewer-marks n = omega (arith, length-take n (s .marks), h .few-marks)
+  fewer-marks : (i : ℕ) → length (take i (s .marks)) ≤ 8
+  fewer-marks i = omega (arith, length-take i (s .marks), h .few-marks)
 
   sound-join : Sound (next s Join)
   sound-join = record { issued = h .issued; rises = h .rises; few-marks = fewer-marks (length (s .marks) - 1); marked = all-take (λ m. m ≤ s .last) (length (s .marks) - 1) (s .marks) (h .marked); pends = tt }
@@ -154,7 +154,7 @@ module _ (k : Bool) (s : Saga) (h : Sound s) where
   sound-back : (d : ℕ) → is-open (next s (Back d) .phase) ≡ true → Sound (next s (Back d))
   sound-back d o = record { issued = h .issued; rises = h .rises; few-marks = fewer-marks d; marked = all-take (λ m. m ≤ s .last) d (s .marks) (h .marked); pends = retreat-pends (target (s .marks) d) d (s .last) (s .standing) o }
 
-  sound-undone : (i : ℕ) → lawful k s (Undone i) ≡ true → is-open (next s (Undone i) .phase) ≡ true → Sound (next s (Undone i))
+  sound-undone : (i : ℕ) → lawful n s (Undone i) ≡ true → is-open (next s (Undone i) .phase) ≡ true → Sound (next s (Undone i))
   sound-undone i e o = record { issued = h .issued; rises = rising-take (length (s .standing) - 1) 0 (s .last) (s .standing) (h .rises); few-marks = h .few-marks; marked = h .marked; pends = undone-pends (s .phase) i (s .last) (without-last (s .standing)) e o }
 
   sound-finish : is-open (next s Finish .phase) ≡ true → Sound (next s Finish)
@@ -163,7 +163,7 @@ module _ (k : Bool) (s : Saga) (h : Sound s) where
   sound-settled : (i : ℕ) → is-open (next s (Settled i) .phase) ≡ true → Sound (next s (Settled i))
   sound-settled i o = record { issued = h .issued; rises = rising-rest (s .last) (s .standing) (h .rises); few-marks = h .few-marks; marked = h .marked; pends = finish-pends (s .last) (removed (s .standing) 0) o }
 
-  sound-next : (e : Event) → lawful k s e ≡ true → is-open (next s e .phase) ≡ true → Sound (next s e)
+  sound-next : (e : Event) → lawful n s e ≡ true → is-open (next s e .phase) ≡ true → Sound (next s e)
   sound-next Begin l o = h
   sound-next (Intent t) l o = sound-intent t l
   sound-next (Done i) l o = sound-done i l
@@ -259,7 +259,7 @@ module _ {V : Type 0} where
           record { in-range = grind (arith, b .0); few = simp length-append (omega arith); ordered = ordered-push 0 (t .top) s v (t .rows) (omega arith) above (h .ordered) }
       go false e = h
 
-  keeps-moves : (k : Bool) (s : ℕ) (e : Event) (t : Sagas V) → Keeps t → Keeps (moves k s e t .1)
+  keeps-moves : (k : ℕ) (s : ℕ) (e : Event) (t : Sagas V) → Keeps t → Keeps (moves k s e t .1)
   keeps-moves k s e t h = by-it (first (of-saga s) (t .rows)) refl
     where
       in-table : (x : Saga × V) → first (of-saga s) (t .rows) ≡ Some x → lawful k (x .0) e ≡ true → (b : Bool) → is-open (next (x .0) e .phase) ≡ b → Keeps (sagas (t .top) (cond b (put (of-saga s) (next (x .0) e, x .1) (t .rows)) (cut (of-saga s) (t .rows))))
@@ -278,7 +278,7 @@ module _ {V : Type 0} where
       by-it None q = h
       by-it (Some x) q = go x q (lawful k (x .0) e) refl
 
-  keeps-applied : (k : Bool) (s : ℕ) (e : Event) (v : V) (t : Sagas V) → Keeps t → Keeps (applied k s e v t .1)
+  keeps-applied : (k : ℕ) (s : ℕ) (e : Event) (v : V) (t : Sagas V) → Keeps t → Keeps (applied k s e v t .1)
   keeps-applied k s Begin v t h = keeps-begins s v t h
   keeps-applied k s (Intent u) v t h = keeps-moves k s (Intent u) t h
   keeps-applied k s (Done i) v t h = keeps-moves k s (Done i) t h
@@ -295,7 +295,7 @@ module _ {V : Type 0} where
   module _ (n : ℕ) (v : V) where
     keeps-read : (rs : List Record) (i : ℕ) (t u : Sagas V) → Keeps t → read-from n v i t rs ≡ Ok u → Keeps u
     keeps-read [] i t u h e = let same : t ≡ u = cc in rw (← same) h
-    keeps-read (r ∷ rs) i t u h e = go (taken n v t r .0) (keeps-read rs (i + 1) (taken n v t r .1) u (keeps-applied (in-bank n (r .participant)) (r .saga) (event-of r) v t h)) e
+    keeps-read (r ∷ rs) i t u h e = go (taken n v t r .0) (keeps-read rs (i + 1) (taken n v t r .1) u (keeps-applied n (r .saga) (event-of r) v t h)) e
       where
         go : (b : Bool) → (read-from n v (i + 1) (taken n v t r .1) rs ≡ Ok u → Keeps u) → _≡_ {A = Result (Sagas V) ℕ} (cond b (read-from n v (i + 1) (taken n v t r .1) rs) (Err i)) (Ok u) → Keeps u
         go true ih q = ih q

@@ -13,7 +13,7 @@ use Rattle.std.proofs.shelf.Maps.{nth-getD}
 use Rattle.record.specs.declared.Record.{Record}
 use Rattle.law.specs.declared.event.Event.{Event}
 use Rattle.law.specs.Events.{event-of}
-use Rattle.law.specs.Sagas.{Sagas, sagas, applied, in-bank, taken, read-from}
+use Rattle.law.specs.Sagas.{Sagas, sagas, applied, taken, read-from}
 
 -- the i-th record as the first of those left
 pub left-at : (rs : List Record) (i : ℕ) (r : Record) → i < length rs → Some r ≡ nth rs i → drop i rs ≡ r ∷ drop (i + 1) rs
@@ -26,15 +26,15 @@ module _ {V : Type 0} (n : ℕ) (v : V) (rs : List Record) (i : ℕ) (t : Sagas 
   pub read-end : length rs ≤ i → read-from n v i t (drop i rs) ≡ Ok t
   read-end h = ap (read-from n v i t) (drop-all i rs h)
 
-  -- one turn: the record is applied as what it says, by whether the bank has its participant
-  module _ (r : Record) (left : drop i rs ≡ r ∷ drop (i + 1) rs) (k : Bool) (e : Event) (bank : k ≡ in-bank n (r .participant)) (says : e ≡ event-of r) where
-    by-it : (x : Bool × Sagas V) → x ≡ applied k (r .saga) e v t → read-from n v i t (drop i rs) ≡ cond (x .0) (read-from n v (i + 1) (x .1) (drop (i + 1) rs)) (Err i)
+  -- one turn: the record is applied as what it says
+  module _ (r : Record) (left : drop i rs ≡ r ∷ drop (i + 1) rs) (e : Event) (says : e ≡ event-of r) where
+    by-it : (x : Bool × Sagas V) → x ≡ applied n (r .saga) e v t → read-from n v i t (drop i rs) ≡ cond (x .0) (read-from n v (i + 1) (x .1) (drop (i + 1) rs)) (Err i)
     by-it x h =
-        let same : x ≡ taken n v t r = h ∙ ap (λ b. applied b (r .saga) e v t) bank ∙ ap (λ f. applied (in-bank n (r .participant)) (r .saga) f v t) says in
+        let same : x ≡ taken n v t r = h ∙ ap (λ f. applied n (r .saga) f v t) says in
         ap (read-from n v i t) left ∙ ap (λ (y : Bool × Sagas V). cond (y .0) (read-from n v (i + 1) (y .1) (drop (i + 1) rs)) (Err i)) (sym same)
 
-    pub read-more : (t′ : Sagas V) → (true, t′) ≡ applied k (r .saga) e v t → read-from n v i t (drop i rs) ≡ read-from n v (i + 1) t′ (drop (i + 1) rs)
+    pub read-more : (t′ : Sagas V) → (true, t′) ≡ applied n (r .saga) e v t → read-from n v i t (drop i rs) ≡ read-from n v (i + 1) t′ (drop (i + 1) rs)
     read-more t′ h = by-it (true, t′) h
 
-    pub read-stop : (t′ : Sagas V) → (false, t′) ≡ applied k (r .saga) e v t → read-from n v i t (drop i rs) ≡ Err i
+    pub read-stop : (t′ : Sagas V) → (false, t′) ≡ applied n (r .saga) e v t → read-from n v i t (drop i rs) ≡ Err i
     read-stop t′ h = by-it (false, t′) h

@@ -46,31 +46,31 @@ module _ {X V : Type 0} (f : X → Saga × V) where
       let same : ys ≡ xs = e ∙ ap (λ b. cond b (xs ++ o ∷ []) xs) (sym room) in
       rw (lt-ltb n s above, le-leb s 1000000 few, length-map xs f, ← room) (ap (λ l. (false, sagas n (map f l))) same)
 
-  module _ (k : Bool) (top s : ℕ) (e : Event) (xs : List X) where
-    pub move-none : None ≡ place (of-saga s) (map f xs) → (false, sagas top (map f xs)) ≡ moves k s e (sagas top (map f xs))
-    move-none h = sym (ap (moves-by k s e (sagas top (map f xs))) (first-not (of-saga s) f xs h))
+  module _ (n top s : ℕ) (e : Event) (xs : List X) where
+    pub move-none : None ≡ place (of-saga s) (map f xs) → (false, sagas top (map f xs)) ≡ moves n s e (sagas top (map f xs))
+    move-none h = sym (ap (moves-by n s e (sagas top (map f xs))) (first-not (of-saga s) f xs h))
 
     module _ (i : ℕ) (o : X) (at : Some i ≡ place (of-saga s) (map f xs)) (read : Some o ≡ nth xs i) where
-      by-it : moves k s e (sagas top (map f xs)) ≡ moves-by k s e (sagas top (map f xs)) (Some (f o))
-      by-it = ap (moves-by k s e (sagas top (map f xs))) (first-at (of-saga s) f xs i at o read)
+      by-it : moves n s e (sagas top (map f xs)) ≡ moves-by n s e (sagas top (map f xs)) (Some (f o))
+      by-it = ap (moves-by n s e (sagas top (map f xs))) (first-at (of-saga s) f xs i at o read)
 
-      pub move-not : (z : Saga) → (false, z) ≡ moved k (f o .0) e → (false, sagas top (map f xs)) ≡ moves k s e (sagas top (map f xs))
-      move-not z h = let b = unlawful-is (lawful k (f o .0) e) (next (f o .0) e) (f o .0) z h in sym (by-it ∙ rw b refl)
+      pub move-not : (z : Saga) → (false, z) ≡ moved n (f o .0) e → (false, sagas top (map f xs)) ≡ moves n s e (sagas top (map f xs))
+      move-not z h = let b = unlawful-is (lawful n (f o .0) e) (next (f o .0) e) (f o .0) z h in sym (by-it ∙ rw b refl)
 
-      module _ (z : Saga) (went : (true, z) ≡ moved k (f o .0) e) where
-        is-lawful : lawful k (f o .0) e ≡ true
-        is-lawful = lawful-is (lawful k (f o .0) e) (next (f o .0) e) (f o .0) z went .0
+      module _ (z : Saga) (went : (true, z) ≡ moved n (f o .0) e) where
+        is-lawful : lawful n (f o .0) e ≡ true
+        is-lawful = lawful-is (lawful n (f o .0) e) (next (f o .0) e) (f o .0) z went .0
 
         is-next : z ≡ next (f o .0) e
-        is-next = lawful-is (lawful k (f o .0) e) (next (f o .0) e) (f o .0) z went .1
+        is-next = lawful-is (lawful n (f o .0) e) (next (f o .0) e) (f o .0) z went .1
 
-        pub move-stays : (ys : List X) (o′ : X) → is-open (z .phase) ≡ true → f o′ ≡ (z, f o .1) → ys ≡ set xs i o′ → (true, sagas top (map f ys)) ≡ moves k s e (sagas top (map f xs))
+        pub move-stays : (ys : List X) (o′ : X) → is-open (z .phase) ≡ true → f o′ ≡ (z, f o .1) → ys ≡ set xs i o′ → (true, sagas top (map f ys)) ≡ moves n s e (sagas top (map f xs))
         move-stays ys o′ open′ m w =
             let op : is-open (next (f o .0) e .phase) ≡ true = ap (λ (y : Saga). is-open (y .phase)) (sym is-next) ∙ open′ in
             let rows : map f ys ≡ put (of-saga s) (next (f o .0) e, f o .1) (map f xs) = ap (map f) w ∙ put-at (of-saga s) f xs i at o′ ∙ ap (λ y. put (of-saga s) y (map f xs)) (m ∙ ap (λ (y : Saga). (y, f o .1)) is-next) in
             sym (by-it ∙ rw (is-lawful, op) (ap (λ l. (true, sagas top l)) (sym rows)))
 
-        pub move-leaves : (ys : List X) → is-open (z .phase) ≡ false → ys ≡ removed xs i → (true, sagas top (map f ys)) ≡ moves k s e (sagas top (map f xs))
+        pub move-leaves : (ys : List X) → is-open (z .phase) ≡ false → ys ≡ removed xs i → (true, sagas top (map f ys)) ≡ moves n s e (sagas top (map f xs))
         move-leaves ys shut w =
             let op : is-open (next (f o .0) e .phase) ≡ false = ap (λ (y : Saga). is-open (y .phase)) (sym is-next) ∙ shut in
             let rows : map f ys ≡ cut (of-saga s) (map f xs) = ap (map f) w ∙ cut-at (of-saga s) f xs i at in

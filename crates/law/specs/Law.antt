@@ -122,23 +122,27 @@ if-finishing (Pending Stepping t) b = false
 if-finishing (Pending (Retreating g d) t) b = false
 if-finishing (Pending Finishing t) b = b t
 
--- whether a record is lawful for an open saga; `known` says that the bank has an intent's participant
-abbrev pub lawful : Bool → Saga → Event → Bool
-lawful known s Begin = false
-lawful known s (Intent t) = if-running (s .phase) (eqb (t .number) (s .last + 1) && (leb (t .number) 32 && known))
-lawful known s (Done k) = if-stepping (s .phase) (λ t. eqb k (t .number))
-lawful known s (Refused k c) = if-stepping (s .phase) (λ t. eqb k (t .number))
-lawful known s Mark = if-running (s .phase) (ltb (length (s .marks)) 8)
-lawful known s Join = if-running (s .phase) (ltb 0 (length (s .marks)))
-lawful known s (Back d) = if-running (s .phase) (leb d (length (s .marks)))
-lawful known s (Undone k) = if-retreating (s .phase) (λ t. eqb k (t .number))
-lawful known s Finish = if-running (s .phase) (eqb (length (s .marks)) 0)
-lawful known s (Settled k) = if-finishing (s .phase) (λ t. eqb k (t .number))
-lawful known s Unlawful = false
+-- an index of the bank's n participants
+abbrev pub in-bank : ℕ → ℕ → Bool
+in-bank n p = leb 1 p && leb p n
+
+-- whether a record is lawful for an open saga, in a bank of n participants
+abbrev pub lawful : ℕ → Saga → Event → Bool
+lawful n s Begin = false
+lawful n s (Intent t) = if-running (s .phase) (eqb (t .number) (s .last + 1) && (leb (t .number) 32 && in-bank n (t .participant)))
+lawful n s (Done k) = if-stepping (s .phase) (λ t. eqb k (t .number))
+lawful n s (Refused k c) = if-stepping (s .phase) (λ t. eqb k (t .number))
+lawful n s Mark = if-running (s .phase) (ltb (length (s .marks)) 8)
+lawful n s Join = if-running (s .phase) (ltb 0 (length (s .marks)))
+lawful n s (Back d) = if-running (s .phase) (leb d (length (s .marks)))
+lawful n s (Undone k) = if-retreating (s .phase) (λ t. eqb k (t .number))
+lawful n s Finish = if-running (s .phase) (eqb (length (s .marks)) 0)
+lawful n s (Settled k) = if-finishing (s .phase) (λ t. eqb k (t .number))
+lawful n s Unlawful = false
 
 -- whether it is lawful, and the saga then
-abbrev pub moved : Bool → Saga → Event → Bool × Saga
-moved known s e = cond (lawful known s e) (true, next s e) (false, s)
+abbrev pub moved : ℕ → Saga → Event → Bool × Saga
+moved n s e = cond (lawful n s e) (true, next s e) (false, s)
 
 -- besides one record for each standing step a saga owes one while neither cancelled nor finished, and two more while stepping
 abbrev pub owes-more : Aim → ℕ

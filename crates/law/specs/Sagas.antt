@@ -37,27 +37,27 @@ may-begin s t = ltb (t .top) s && (leb s 1000000 && ltb (length (t .rows)) 8)
 abbrev pub begins : {V : Type 0} → ℕ → V → Sagas V → Bool × Sagas V
 begins s v t = cond (may-begin s t) (true, sagas s (t .rows ++ (begun s, v) ∷ [])) (false, t)
 
-abbrev pub moves-by : {V : Type 0} → Bool → ℕ → Event → Sagas V → Option (Saga × V) → Bool × Sagas V
-moves-by k s e t None = (false, t)
-moves-by k s e t (Some x) = cond (lawful k (x .0) e) (true, sagas (t .top) (placed s (next (x .0) e, x .1) (t .rows))) (false, t)
+abbrev pub moves-by : {V : Type 0} → ℕ → ℕ → Event → Sagas V → Option (Saga × V) → Bool × Sagas V
+moves-by n s e t None = (false, t)
+moves-by n s e t (Some x) = cond (lawful n (x .0) e) (true, sagas (t .top) (placed s (next (x .0) e, x .1) (t .rows))) (false, t)
 
 -- a record of a saga that is not open is unlawful
-abbrev pub moves : {V : Type 0} → Bool → ℕ → Event → Sagas V → Bool × Sagas V
-moves k s e t = moves-by k s e t (first (of-saga s) (t .rows))
+abbrev pub moves : {V : Type 0} → ℕ → ℕ → Event → Sagas V → Bool × Sagas V
+moves n s e t = moves-by n s e t (first (of-saga s) (t .rows))
 
--- whether a record is lawful, and the sagas then; k says that the bank has an intent's participant, v is the note of a saga that begins
-abbrev pub applied : {V : Type 0} → Bool → ℕ → Event → V → Sagas V → Bool × Sagas V
-applied k s Begin v t = begins s v t
-applied k s (Intent u) v t = moves k s (Intent u) t
-applied k s (Done i) v t = moves k s (Done i) t
-applied k s (Refused i c) v t = moves k s (Refused i c) t
-applied k s Mark v t = moves k s Mark t
-applied k s Join v t = moves k s Join t
-applied k s (Back d) v t = moves k s (Back d) t
-applied k s (Undone i) v t = moves k s (Undone i) t
-applied k s Finish v t = moves k s Finish t
-applied k s (Settled i) v t = moves k s (Settled i) t
-applied k s Unlawful v t = moves k s Unlawful t
+-- whether a record is lawful in a bank of n participants, and the sagas then; v is the note of a saga that begins
+abbrev pub applied : {V : Type 0} → ℕ → ℕ → Event → V → Sagas V → Bool × Sagas V
+applied n s Begin v t = begins s v t
+applied n s (Intent u) v t = moves n s (Intent u) t
+applied n s (Done i) v t = moves n s (Done i) t
+applied n s (Refused i c) v t = moves n s (Refused i c) t
+applied n s Mark v t = moves n s Mark t
+applied n s Join v t = moves n s Join t
+applied n s (Back d) v t = moves n s (Back d) t
+applied n s (Undone i) v t = moves n s (Undone i) t
+applied n s Finish v t = moves n s Finish t
+applied n s (Settled i) v t = moves n s (Settled i) t
+applied n s Unlawful v t = moves n s Unlawful t
 
 abbrev pub owed : {V : Type 0} → Sagas V → ℕ
 owed t = sumBy (λ x. owes (x .0)) (t .rows)
@@ -70,13 +70,9 @@ renoted s v (x ∷ rows) = cond (of-saga s x) ((x .0, v) ∷ rows) (x ∷ renote
 abbrev pub noted : {V : Type 0} → ℕ → V → Sagas V → Sagas V
 noted s v t = sagas (t .top) (renoted s v (t .rows))
 
--- an index of the bank's n participants
-abbrev pub in-bank : ℕ → ℕ → Bool
-in-bank n p = leb 1 p && leb p n
-
--- the same of a record as it lies in the journal of a bank of n participants
+-- the same of a record as it lies in the journal
 abbrev pub taken : {V : Type 0} → ℕ → V → Sagas V → Record → Bool × Sagas V
-taken n v t r = applied (in-bank n (r .participant)) (r .saga) (event-of r) v t
+taken n v t r = applied n (r .saga) (event-of r) v t
 
 -- the law's reading of the records, from the i-th on: the sagas, or the index of the first that is not lawful
 abbrev pub read-from : {V : Type 0} → ℕ → V → ℕ → Sagas V → List Record → Result (Sagas V) ℕ

@@ -134,12 +134,15 @@ impl Row {
     }
 
     /// Whether the event is lawful; one that is not changes nothing.
-    pub(crate) fn apply(&mut self, event: Event, in_bank: bool) -> bool
-        ensures { λ r. ⌜ (r, saga-of (now (self .exit))) ≡ moved «in_bank» (saga-of (now (self .entry))) event ⌝ }
+    pub(crate) fn apply(&mut self, event: Event, participants: u8) -> bool
+        ensures { λ r. ⌜ (r, saga-of (now (self .exit))) ≡ moved participants (saga-of (now (self .entry))) event ⌝ }
     {
         match (self.phase, event) {
             (Phase::Running, Event::Intent(step))
-                if step.number == self.last + 1 && step.number <= 32 && in_bank => {
+                if step.number == self.last + 1
+                    && step.number <= 32
+                    && 1 <= step.participant
+                    && step.participant <= participants => {
                 self.phase = Phase::Pending(Aim::Stepping, step);
                 self.last = step.number;
             }

@@ -30,8 +30,8 @@ impl<V: Copy> Table<V> {
         }
     }
 
-    fn move_open(&mut self, saga: u32, event: Event, in_bank: bool) -> bool
-        ensures { λ r. ⌜ (r, sagas-of (now (self .exit))) ≡ moves «in_bank» saga event (sagas-of (now (self .entry))) ⌝ }
+    fn move_open(&mut self, saga: u32, event: Event, participants: u8) -> bool
+        ensures { λ r. ⌜ (r, sagas-of (now (self .exit))) ≡ moves participants saga event (sagas-of (now (self .entry))) ⌝ }
     {
         let Some(place) = self.place_of(saga) else {
             return false;
@@ -39,7 +39,7 @@ impl<V: Copy> Table<V> {
         let Some(mut open) = self.rows.get(place) else {
             return false;
         };
-        if !open.row.apply(event, in_bank) {
+        if !open.row.apply(event, participants) {
             return false;
         }
         if open.row.is_open() {
@@ -50,14 +50,14 @@ impl<V: Copy> Table<V> {
         true
     }
 
-    /// Whether the event is lawful for the saga, where `in_bank` says that the bank has an intent's participant; one that
-    /// is not lawful changes nothing. A saga that begins has the note, and one that closes leaves the table.
-    pub fn apply(&mut self, saga: u32, event: Event, in_bank: bool, note: V) -> bool
-        ensures { λ r. ⌜ (r, sagas-of (now (self .exit))) ≡ applied «in_bank» saga event note (sagas-of (now (self .entry))) ⌝ }
+    /// Whether the event is lawful for the saga in a bank of so many participants; one that is not changes nothing. A saga
+    /// that begins has the note, and one that closes leaves the table.
+    pub fn apply(&mut self, saga: u32, event: Event, participants: u8, note: V) -> bool
+        ensures { λ r. ⌜ (r, sagas-of (now (self .exit))) ≡ applied participants saga event note (sagas-of (now (self .entry))) ⌝ }
     {
         match event {
             Event::Begin => self.begin(saga, note),
-            _ => self.move_open(saga, event, in_bank),
+            _ => self.move_open(saga, event, participants),
         }
     }
 

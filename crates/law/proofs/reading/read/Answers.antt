@@ -11,12 +11,12 @@ use Rattle.law.proofs.reading.read.Needs as need
 pub returns-then-not-apply : need.returns-then-not-apply
 returns-then-not-apply g c =
     let rs = c .args .records .now in
-    record { law = readings; value = sym (c .loop-i .inv ∙ read-stop (c .args .participants) (c .args .note) rs (c .loop-i .i) (sagas-of (c .loop-i .table)) _ (drop-more rs (c .loop-i .i) _ (c .loop-i-test .taken)) (c .has-in-bank .result) (c .of .result) (c .has-in-bank .ensures) (c .of .ensures) (sagas-of (c .apply .last .self)) (c .if-not-apply .ensures tt)) }
+    record { law = readings; value = sym (c .loop-i .inv ∙ read-stop (c .args .participants) (c .args .note) rs (c .loop-i .i) (sagas-of (c .loop-i .table)) _ (drop-more rs (c .loop-i .i) _ (c .loop-i-test .taken)) (c .of .result) (c .of .ensures) (sagas-of (c .apply .last .self)) (c .if-not-apply .ensures tt)) }
 
 pub loop-i-again : need.loop-i-again
 loop-i-again g c =
     let rs = c .args .records .now in
-    c .loop-i .inv ∙ read-more (c .args .participants) (c .args .note) rs (c .loop-i .i) (sagas-of (c .loop-i .table)) _ (drop-more rs (c .loop-i .i) _ (c .loop-i-test .taken)) (c .has-in-bank .result) (c .of .result) (c .has-in-bank .ensures) (c .of .ensures) (sagas-of (c .apply .last .self)) (c .if-not-apply .ensures tt)
+    c .loop-i .inv ∙ read-more (c .args .participants) (c .args .note) rs (c .loop-i .i) (sagas-of (c .loop-i .table)) _ (drop-more rs (c .loop-i .i) _ (c .loop-i-test .taken)) (c .of .result) (c .of .ensures) (sagas-of (c .apply .last .self)) (c .if-not-apply .ensures tt)
 
 pub returns : need.returns
 returns g c =
