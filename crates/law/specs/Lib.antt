@@ -1,0 +1,9 @@
+pub mod Bare
+pub mod Coming
+pub mod Events
+pub mod Keeps
+pub mod Law
+pub mod Means
+pub mod Sagas
+pub mod Tables
+pub mod Views
