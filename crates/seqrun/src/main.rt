@@ -1,8 +1,16 @@
-//! Takes one saga through the bank of a small site and prints what the calls answered.
+//! Takes one saga through the bank of a small site, notes it in a journal of 1,024 slots, and prints what the journal says.
 use bank::bank::Bank;
 use bank::chain::EmptyBank;
 use bank::chain::WithBank;
+use journals::slots::SlotJournal;
+use journals::slots::methods::SlotRead;
+use journals::slots::methods::SlotWrite;
+use journals::traits::Journal;
+use journals::traits::JournalRead;
+use law::event::Event;
+use law::event::Step;
 use participants::answer::Answer;
+use record::SLOT;
 use site::bank::SiteBank;
 use site::example;
 use site::example::T7;
@@ -15,26 +23,22 @@ use terms::CLAIM;
 use terms::Entry;
 use terms::HANG;
 use terms::Key;
+use terms::LIFT;
+use terms::MOVE;
+use terms::RETURN;
 use terms::Request;
 
 const STOCK: u8 = 1;
-
 const LEDGER: u8 = 2;
-
 const REGISTRY: u8 = 3;
+
+const SLOTS: usize = 1024;
 
 const SAGA: u32 = 5;
 
-/// A step of the saga, with the words that a report has for it.
-#[derive(Clone, Copy)]
-struct Step {
-    participant: u8,
-    request: Request,
-    words: &'static str,
-}
-
 const STEPS: [Step; 2] = [
     Step {
+        number: 1,
         participant: REGISTRY,
         request: Request {
             verb: HANG,
@@ -42,9 +46,9 @@ const STEPS: [Step; 2] = [
             a: T7,
             b: 0,
         },
-        words: "hang T7",
     },
     Step {
+        number: 2,
         participant: STOCK,
         request: Request {
             verb: CLAIM,
@@ -52,83 +56,133 @@ const STEPS: [Step; 2] = [
             a: 1,
             b: 0,
         },
-        words: "claim 4 of 1",
     },
 ];
 
-fn key_of(place: u8) -> Key {
+fn key_of(step: &Step) -> Key {
     Key {
         saga: SAGA,
-        step: place.saturating_add(1),
+        step: step.number,
     }
 }
 
-/// Performs the step at a place; whether it is done.
-fn perform(rt: &LibcRuntime, bank: &mut SiteBank, place: u8, step: &Step) -> io::Result<bool> {
-    let key = key_of(place);
-    let number = key.step;
-    let words = step.words;
-    println!(rt, "{SAGA}.{number} {words}")?;
-    let answer = bank.perform(
-        step.participant,
-        Entry {
-            key,
-            request: step.request,
-        },
-    );
-    match answer {
-        Answer::Done | Answer::Already => {
-            println!(rt, "{SAGA}.{number} done")?;
-            Ok(true)
-        }
+/// Notes an event of the saga; false where the journal is full.
+fn note(journal: &mut SlotJournal, event: Event) -> bool {
+    journal.append(event.to_record(SAGA)).is_ok()
+}
+
+/// Performs one step and notes what it came to; whether it is done.
+fn perform(journal: &mut SlotJournal, bank: &mut SiteBank, step: &Step) -> bool {
+    if !note(journal, Event::Intent(*step)) {
+        return false;
+    }
+    let entry = Entry {
+        key: key_of(step),
+        request: step.request,
+    };
+    match bank.perform(step.participant, entry) {
+        Answer::Done | Answer::Already => note(journal, Event::Done(step.number)),
         Answer::Refused(refusal) => {
-            let code = refusal.code();
-            println!(rt, "{SAGA}.{number} refused {code}")?;
-            Ok(false)
+            let _ = note(journal, Event::Refused(step.number, refusal));
+            false
         }
     }
 }
 
 /// Performs the steps in their order; how many are done before the first that is refused.
-fn forward(rt: &LibcRuntime, bank: &mut SiteBank) -> io::Result<u8> {
-    println!(rt, "{SAGA} begin")?;
-    let mut done = 0;
-    for step in &STEPS {
-        if !perform(rt, bank, done, step)? {
-            return Ok(done);
+fn forward(journal: &mut SlotJournal, bank: &mut SiteBank) -> usize {
+    let _ = note(journal, Event::Begin);
+    for (done, step) in STEPS.iter().enumerate() {
+        if !perform(journal, bank, step) {
+            return done;
         }
-        done = done.saturating_add(1);
     }
-    Ok(done)
+    STEPS.len()
 }
 
-fn back(rt: &LibcRuntime, bank: &mut SiteBank, done: u8) -> io::Result<()> {
-    println!(rt, "{SAGA} back 0")?;
-    for place in (0..done).rev() {
-        if let Some(step) = STEPS.get(place as usize) {
-            let key = key_of(place);
-            let number = key.step;
-            bank.undo(step.participant, key);
-            println!(rt, "{SAGA}.{number} undone")?;
+/// Undoes the first so many steps, the last of them first.
+fn back(journal: &mut SlotJournal, bank: &mut SiteBank, done: usize) {
+    let _ = note(journal, Event::Back(0));
+    for step in STEPS.iter().take(done).rev() {
+        bank.undo(step.participant, key_of(step));
+        let _ = note(journal, Event::Undone(step.number));
+    }
+}
+
+fn finish(journal: &mut SlotJournal, bank: &mut SiteBank) {
+    let _ = note(journal, Event::Finish);
+    for step in &STEPS {
+        bank.settle(step.participant, key_of(step));
+        let _ = note(journal, Event::Settled(step.number));
+    }
+}
+
+/// The letters of a tag's name, which are the bytes of its number.
+fn print_name(rt: &LibcRuntime, name: u64) -> io::Result<()> {
+    for byte in name.to_be_bytes() {
+        if byte != 0 {
+            let letter = byte as char;
+            print!(rt, "{letter}")?;
         }
     }
     Ok(())
 }
 
-fn finish(rt: &LibcRuntime, bank: &mut SiteBank) -> io::Result<()> {
-    println!(rt, "{SAGA} finish")?;
-    let mut place = 0;
-    for step in &STEPS {
-        let key = key_of(place);
-        let number = key.step;
-        bank.settle(step.participant, key);
-        println!(rt, "{SAGA}.{number} settled")?;
-        place = place.saturating_add(1);
+fn print_request(rt: &LibcRuntime, request: &Request) -> io::Result<()> {
+    let amount = request.amount;
+    let a = request.a;
+    let b = request.b;
+    match request.verb {
+        CLAIM => println!(rt, "claim {amount} of {a}"),
+        RETURN => println!(rt, "return {amount} of {a}"),
+        MOVE => println!(rt, "move {amount} from {a} to {b}"),
+        HANG => {
+            print!(rt, "hang ")?;
+            print_name(rt, a)?;
+            println!(rt, "")
+        }
+        LIFT => {
+            print!(rt, "lift ")?;
+            print_name(rt, a)?;
+            println!(rt, "")
+        }
+        _ => println!(rt, "request"),
+    }
+}
+
+fn print_event(rt: &LibcRuntime, saga: u32, event: Event) -> io::Result<()> {
+    match event {
+        Event::Begin => println!(rt, "{saga} begin"),
+        Event::Intent(step) => {
+            let number = step.number;
+            print!(rt, "{saga}.{number} ")?;
+            print_request(rt, &step.request)
+        }
+        Event::Done(step) => println!(rt, "{saga}.{step} done"),
+        Event::Refused(step, refusal) => {
+            let code = refusal.code();
+            println!(rt, "{saga}.{step} refused {code}")
+        }
+        Event::Mark => println!(rt, "{saga} mark"),
+        Event::Join => println!(rt, "{saga} join"),
+        Event::Back(depth) => println!(rt, "{saga} back {depth}"),
+        Event::Undone(step) => println!(rt, "{saga}.{step} undone"),
+        Event::Finish => println!(rt, "{saga} finish"),
+        Event::Settled(step) => println!(rt, "{saga}.{step} settled"),
+        Event::Unlawful => Ok(()),
+    }
+}
+
+fn print_journal(rt: &LibcRuntime, journal: &SlotJournal) -> io::Result<()> {
+    for i in 0..journal.count() {
+        if let Some(record) = journal.entry(i) {
+            print_event(rt, record.saga, Event::of(&record))?;
+        }
     }
     Ok(())
 }
 
-fn show_cell(rt: &LibcRuntime, name: &str, value: Option<u32>) -> io::Result<()> {
+fn print_cell(rt: &LibcRuntime, name: &str, value: Option<u32>) -> io::Result<()> {
     match value {
         Some(value) => println!(rt, "{name} {value}"),
         None => Ok(()),
@@ -139,15 +193,18 @@ fn run(rt: &LibcRuntime) -> Result<(), AnyError> {
     let Ok(mut bank) = example::site() else {
         return Err("the site is out of range".into());
     };
-    let done = forward(rt, &mut bank)?;
-    if done as usize == STEPS.len() {
-        finish(rt, &mut bank)?;
+    let mut bytes = vec![in rt.alloc(); 0u8; SLOT * SLOTS]?;
+    let mut journal = SlotJournal::open(bytes.as_mut_slice());
+    let done = forward(&mut journal, &mut bank);
+    if done == STEPS.len() {
+        finish(&mut journal, &mut bank);
     } else {
-        back(rt, &mut bank, done)?;
+        back(&mut journal, &mut bank, done);
     }
-    show_cell(rt, "group 1", bank.value(STOCK, 1))?;
-    show_cell(rt, "feeder 1", bank.value(LEDGER, 1))?;
-    show_cell(rt, "tag T7", bank.value(REGISTRY, T7))?;
+    print_journal(rt, &journal)?;
+    print_cell(rt, "group 1", bank.value(STOCK, 1))?;
+    print_cell(rt, "feeder 1", bank.value(LEDGER, 1))?;
+    print_cell(rt, "tag T7", bank.value(REGISTRY, T7))?;
     Ok(())
 }
 
