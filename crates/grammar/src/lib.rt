@@ -1,6 +1,8 @@
 //! What a script is, and what the grammar makes of it.
 use terms::Request;
 
+pub mod readers;
+
 /// A cell of stock or ledger, as the site lists it.
 #[derive(Clone, Copy)]
 pub struct Cell {
