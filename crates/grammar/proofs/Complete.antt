@@ -42,7 +42,7 @@ abbrev pub accept : State → List Token → Result State Cause
 accept s [] = step s token.End
 accept s (t ∷ ts) = then (step s t) (λ u. accept u ts)
 
-rebuilt : (r : Request) (v n b : ℕ) → r .verb ≡ v → r .amount ≡ n → r .b ≡ b → r ≡ request v n (r .a) b
+pub rebuilt : (r : Request) (v n b : ℕ) → r .verb ≡ v → r .amount ≡ n → r .b ≡ b → r ≡ request v n (r .a) b
 rebuilt r v n b p q e =
     ap (λ (x : ℕ). request x (r .amount) (r .a) (r .b)) p ∙ ap (λ (x : ℕ). request v x (r .a) (r .b)) q ∙ ap (λ (x : ℕ). request v n (r .a) x) e
 

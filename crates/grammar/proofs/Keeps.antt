@@ -19,7 +19,7 @@ use Rattle.tokens.specs.declared.text.Cause.{Cause}
 use Rattle.terms.specs.declared.Request.{Request}
 use Rattle.grammar.specs.Machine.{Layout, SagaItems, State, Place, Part, body, other, at, into, more, moreTags, filled, tagged, title, after, cell, aTag, closed, headed, begun, turned, did, stock, shift, hung, headWord, aStep, aHead, aStart, newName, oldName, unlessListed, ifListed, unlessSame, otherFeeder, listed, most, left, fresh, opened, step, move}
 use Rattle.grammar.specs.Machine as machine
-use Rattle.grammar.specs.Makes.{Nests, AllNest}
+use Rattle.grammar.specs.Makes.{Shaped, Nests, AllNest}
 use Rattle.grammar.specs.Limits.{RequestFits, StockFits, MoveFits, TagFits, ItemsFit, SagasFit, CellsFit, TagsFit, Valid}
 use Rattle.grammar.specs.SoFar.{Good}
 use Rattle.grammar.specs.declared.Cell.{Cell}
@@ -250,8 +250,13 @@ tag-shape : (l : Layout) (up : Bool) (a : ℕ) → listed a (l .tags) ≡ true �
 tag-shape l true a h = inr (inr (record { verb = inr refl; one = refl; there = h; second = refl }))
 tag-shape l false a h = inr (inr (record { verb = inl refl; one = refl; there = h; second = refl }))
 
+pub shape-of : (l : Layout) (r : Request) → RequestFits l r → Shaped r
+shape-of l r (inl f) = inl (f .verb, f .second)
+shape-of l r (inr (inl f)) = inr (inl (f .verb))
+shape-of l r (inr (inr f)) = inr (inr (f .verb, f .one, f .second))
+
 did-kept : (l : Layout) (d : List SagaItems) (o : machine.Open) (r : Request) → Valid l d → OpenFits l o → o .steps < 32 → RequestFits l r → Kept (at l d (machine.items (did o r)))
-did-kept l d o r v f m g = (v, pushed l o (item.Step r) (o .steps + 1) (o .parts) f (λ js z. (m, g, z)) (λ js z. z))
+did-kept l d o r v f m g = (v, pushed l o (item.Step r) (o .steps + 1) (o .parts) f (λ js z. (m, g, z)) (λ js z. (shape-of l r g, z)))
 
 pub keeps : (l : Layout) (d : List SagaItems) (p : Place) (t : Token) (u : State) → Good d p → Keeps l d p → move l d p t ≡ Ok u → Kept u
 keeps l d (machine.heading s) t u z k h = keep (aWord (title s) t) (λ _. at l d (machine.count s)) u h (λ x e. k)

@@ -28,7 +28,7 @@ use Rattle.grammar.specs.Makes.{shown, without-places, tokens-of}
 use Rattle.grammar.specs.Limits.{Plain, Valid}
 use Rattle.grammar.specs.SoFar.{sofar}
 use Rattle.grammar.specs.Judged.{judge, outcome, tooLong, finished, Meets}
-use Rattle.grammar.specs.Read.{Is-script, judged, Begins, Comes-after, Not-allowed, Faulty-token, Too-long, First-fault, Reading}
+use Rattle.grammar.specs.Read.{Is-script, judged, Begins, Comes-after, Not-allowed, Lacking, Number-fits, Faulty-token, Too-long, First-fault, Reading}
 use Rattle.grammar.specs.Lists.{lists-of, sagas-of}
 use Rattle.grammar.specs.declared.Script.{Script}
 use Rattle.grammar.proofs.Grows.{accepted-is-made}
@@ -36,6 +36,7 @@ use Rattle.grammar.proofs.Complete.{accept, then, script-accepted, made-is-acc
 use Rattle.grammar.proofs.Stops.{Stop, stops, ended}
 use Rattle.grammar.proofs.Beginnings.{begins}
 use Rattle.grammar.proofs.Numbers.{number-fits}
+use Rattle.grammar.proofs.Loose.{loosely, allow, lacks, script-allowed}
 use Rattle.grammar.proofs.Keeps.{Kept, Keeps}
 
 -- the tokens of a text have no End among them
@@ -111,11 +112,32 @@ not-allowed {end = end} {c = c} m = λ l d v a.
     ∙ ap (λ (xs : List Token). accept start xs) (sym (a .parts))
     ∙ script-accepted l d v)
 
+stuck-loosely : (s : State) (t : Token) (us : List Token) (c : Cause) → loosely s t ≡ Err c → (t ≡ token.End → us ≡ []) → allow s (shown t ++ us) ≡ Err c
+stuck-loosely s (token.Word w) us c e h = ap (λ (r : Result State Cause). then r (λ u. allow u us)) e
+stuck-loosely s (token.Name n) us c e h = ap (λ (r : Result State Cause). then r (λ u. allow u us)) e
+stuck-loosely s (token.Number n) us c e h = ap (λ (r : Result State Cause). then r (λ u. allow u us)) e
+stuck-loosely s token.Open us c e h = ap (λ (r : Result State Cause). then r (λ u. allow u us)) e
+stuck-loosely s token.Close us c e h = ap (λ (r : Result State Cause). then r (λ u. allow u us)) e
+stuck-loosely s (token.Bad g) us c e h = ap (λ (r : Result State Cause). then r (λ u. allow u us)) e
+stuck-loosely s token.End us c e h = ap (λ (xs : List Token). allow s xs) (h refl) ∙ e
+
+lacking : {end : ℕ} {ts : List (Token × ℕ)} {c : Cause} {p : ℕ} (m : Stop end start ts c p) → c ≡ Grammar → Lacking (without-places (m .before)) (first end (m .rest) .0)
+lacking {end = end} m e = λ l d n a.
+    apart-cause
+    (sym (stuck-loosely (m .state) (first end (m .rest) .0) (a .rest) Grammar
+    (lacks (m .state .layout) (m .state .sagas) (m .state .place) (first end (m .rest) .0) (m .refusal ∙ ap (λ (x : Cause). Err x) e)) (a .end))
+    ∙ sym (m .allows (shown (first end (m .rest) .0) ++ a .rest))
+    ∙ ap (λ (xs : List Token). allow start xs) (sym (a .parts))
+    ∙ script-allowed l d n)
+
 -- the fault of what is judged
 faulty : (text : List ℕ) (c : Cause) (p : ℕ) → outcome (judged text) ≡ Err (At c p) → Faulty-token text (code-of c) p
 faulty text c p h =
     let m = stops (length (judged text)) (tokensFrom (judged text) 0) start c p (plain 0 0 (judged text)) refl tt h in
+    let t = first (length (judged text)) (m .rest) .0 in
     let P : List Token → Type 0 = λ xs. Begins xs in
+    let N : List Token → Type 0 = λ xs. Number-fits xs t (code-of c) in
+    let L : List Token → Type 0 = λ xs. Lacking xs t in
     record {
       before = m .before;
       rest = m .rest;
@@ -123,7 +145,9 @@ faulty text c p h =
       place = m .place;
       begins = subst P (m .shows) (begins (m .state .layout) (m .state .sagas) (m .state .place) (m .good) (m .kept));
       refused = not-allowed m;
-      number = number-fits (m .state .layout) (m .state .sagas) (m .state .place) (first (length (judged text)) (m .rest) .0) c (m .refusal);
+      number =
+          subst N (m .shows)
+          (number-fits (m .state .layout) (m .state .sagas) (m .state .place) t c (m .good) (m .kept) (λ e. subst L (sym (m .shows)) (lacking m e)) (m .refusal));
     }
 
 fault-same : {c e : Cause} {p q : ℕ} → _≡_ {A = Answer} (Err (At c p)) (Err (At e q)) → (code-of e ≡ code-of c) × (q ≡ p)

@@ -20,6 +20,7 @@ use Rattle.grammar.specs.SoFar.{sofar, Good}
 use Rattle.grammar.proofs.Grows.{append-nil, grows, at-end, on-ok, last}
 use Rattle.grammar.proofs.Keeps.{Kept, keeps}
 use Rattle.grammar.proofs.Complete.{accept, then}
+use Rattle.grammar.proofs.Loose.{loosely, allow, loosened}
 
 pub record Stop (end : ℕ) (s : State) (ts : List (Token × ℕ)) (c : Cause) (p : ℕ) : Type 0 where
   pub before : List (Token × ℕ)
@@ -27,6 +28,7 @@ pub record Stop (end : ℕ) (s : State) (ts : List (Token × ℕ)) (c : Cause) (
   pub state : State
   pub parts : ts ≡ before ++ rest
   pub leads : (xs : List Token) → accept s (without-places before ++ xs) ≡ accept state xs
+  pub allows : (xs : List Token) → allow s (without-places before ++ xs) ≡ allow state xs
   pub place : first end rest .1 ≡ p
   pub refusal : step state (first end rest .0) ≡ Err c
   pub shows : sofar state ≡ sofar s ++ without-places before
@@ -49,12 +51,16 @@ led : (s v : State) (t : Token) (bs xs : List Token) → shown t ≡ t ∷ [] �
 led s v t bs xs p e =
     ap (λ (zs : List Token). accept s ((zs ++ bs) ++ xs)) p ∙ ap (λ (r : Result State Cause). then r (λ u. accept u (bs ++ xs))) e
 
+led-loosely : (s v : State) (t : Token) (bs xs : List Token) → shown t ≡ t ∷ [] → loosely s t ≡ Ok v → allow s ((shown t ++ bs) ++ xs) ≡ allow v (bs ++ xs)
+led-loosely s v t bs xs p e =
+    ap (λ (zs : List Token). allow s ((zs ++ bs) ++ xs)) p ∙ ap (λ (r : Result State Cause). then r (λ u. allow u (bs ++ xs))) e
+
 pub stops : (end : ℕ) (ts : List (Token × ℕ)) (s : State) (c : Cause) (p : ℕ) → Plain ts → Good (s .sagas) (s .place) → Kept s → run end s ts ≡ Err (At c p) → Stop end s ts c p
 stops end [] s c p pl g k h =
     let z = end-err (step s token.End) end c p h in
-    record { before = []; rest = []; state = s; parts = refl; leads = λ xs. refl; place = z .1; refusal = z .0; shows = sym (append-nil (sofar s)); good = g; kept = k }
+    record { before = []; rest = []; state = s; parts = refl; leads = λ xs. refl; allows = λ xs. refl; place = z .1; refusal = z .0; shows = sym (append-nil (sofar s)); good = g; kept = k }
 stops end (t ∷ ts) s c p pl g k h = elim (on-err (step s (t .0)) (t .1) (λ u. run end u ts) c p h) [
-  | inl z ↦ record { before = []; rest = t ∷ ts; state = s; parts = refl; leads = λ xs. refl; place = z .1; refusal = z .0; shows = sym (append-nil (sofar s)); good = g; kept = k }
+  | inl z ↦ record { before = []; rest = t ∷ ts; state = s; parts = refl; leads = λ xs. refl; allows = λ xs. refl; place = z .1; refusal = z .0; shows = sym (append-nil (sofar s)); good = g; kept = k }
   | inr z ↦
       let v = z .0 in
       let w = grows (s .layout) (s .sagas) (s .place) (t .0) v g (z .1) in
@@ -65,6 +71,7 @@ stops end (t ∷ ts) s c p pl g k h = elim (on-err (step s (t .0)) (t .1) (λ u.
         state = m .state;
         parts = ap (λ (xs : List (Token × ℕ)). t ∷ xs) (m .parts);
         leads = λ xs. led s v (t .0) (without-places (m .before)) xs (pl .0) (z .1) ∙ m .leads xs;
+        allows = λ xs. led-loosely s v (t .0) (without-places (m .before)) xs (pl .0) (loosened (s .layout) (s .sagas) (s .place) (t .0) v (z .1)) ∙ m .allows xs;
         place = m .place;
         refusal = m .refusal;
         shows =

@@ -2,6 +2,7 @@
 use Prim.Native.Nat.{ℕ, _+_}
 use mathlib.Core.Path.{_≡_}
 use mathlib.Core.Bool.{cond}
+use mathlib.Core.Logic.{_⊎_}
 use mathlib.Core.List.{List, [], _∷_, _++_}
 use lib.Dec.{eqb}
 use lib.ListN.{length}
@@ -79,10 +80,16 @@ sagas-tokens (s ∷ ss) = saga-tokens s ++ sagas-tokens ss
 abbrev pub tokens-of : Layout → List SagaItems → List Token
 tokens-of l d = site-tokens l ++ sagas-tokens d
 
+-- a request that an item can ask, whatever its numbers and name: what its words do not give is fixed
+abbrev pub Shaped : Request → Type 0
+Shaped r =
+    (((r .verb ≡ 1) ⊎ (r .verb ≡ 2)) × (r .b ≡ 0))
+    ⊎ ((r .verb ≡ 3) ⊎ (((r .verb ≡ 4) ⊎ (r .verb ≡ 5)) × (r .amount ≡ 1) × (r .b ≡ 0)))
+
 -- the tries of a saga are closed in order: body, else, other part, end; ps are the parts around, the innermost first
 abbrev pub Nests : List Part → List Item → Type 0
 Nests ps [] = ps ≡ []
-Nests ps (item.Step r ∷ is) = Nests ps is
+Nests ps (item.Step r ∷ is) = Shaped r × Nests ps is
 Nests ps (item.Try ∷ is) = Nests (body ∷ ps) is
 Nests [] (item.Else ∷ is) = ⊥
 Nests (body ∷ ps) (item.Else ∷ is) = Nests (other ∷ ps) is

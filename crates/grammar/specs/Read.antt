@@ -2,7 +2,7 @@
 use Prim.Native.Nat.{ℕ, _≤_, _<_}
 use mathlib.Core.Path.{_≡_}
 use mathlib.Core.Logic.{_⊎_}
-use mathlib.Core.List.{List, [], _++_}
+use mathlib.Core.List.{List, [], _∷_, _++_}
 use lib.ListN.{length, take}
 use Rattle.std.specs.Of.Vec.{vec-items}
 use Rattle.std.specs.declared.result.Result.{Result}
@@ -47,15 +47,23 @@ pub record Comes-after (all before : List Token) (t : Token) : Type 0 where
 abbrev pub Not-allowed : List Token → Token → Type 0
 Not-allowed before t = (l : Layout) (d : List SagaItems) → Valid l d → Comes-after (tokens-of l d) before t → ⊥
 
--- the numbers that a token can be refused with: its own, or 13 where the grammar lacks it, or that of a limit on numbers, names or words
-abbrev pub Number-fits : Token → ℕ → Type 0
-Number-fits (Bad c) n = n ≡ code-of c
-Number-fits (Number v) n = (n ≡ 13) ⊎ (n ≡ 14)
-Number-fits (Name a) n = (n ≡ 13) ⊎ (n ≡ 15)
-Number-fits (Word w) n = (n ≡ 13) ⊎ (n ≡ 16)
-Number-fits Open n = n ≡ 13
-Number-fits Close n = n ≡ 13
-Number-fits End n = n ≡ 13
+-- no site and sagas have t after `before`, their limits aside: the grammar lacks it there
+abbrev pub Lacking : List Token → Token → Type 0
+Lacking before t = (l : Layout) (d : List SagaItems) → AllNest d → Comes-after (tokens-of l d) before t → ⊥
+
+-- 13 where the grammar lacks the token; else n, where it is against a limit alone
+abbrev pub Lacking-or : ℕ → List Token → Token → ℕ → Type 0
+Lacking-or limit before t n = ((n ≡ 13) × Lacking before t) ⊎ ((n ≡ limit) × Begins (before ++ t ∷ []))
+
+-- the number of a token that is refused after `before`: its own, or 13, or that of a limit on numbers, names or words
+abbrev pub Number-fits : List Token → Token → ℕ → Type 0
+Number-fits before (Bad c) n = n ≡ code-of c
+Number-fits before (Number v) n = Lacking-or 14 before (Number v) n
+Number-fits before (Name a) n = Lacking-or 15 before (Name a) n
+Number-fits before (Word w) n = Lacking-or 16 before (Word w) n
+Number-fits before Open n = (n ≡ 13) × Lacking before Open
+Number-fits before Close n = (n ≡ 13) × Lacking before Close
+Number-fits before End n = (n ≡ 13) × Lacking before End
 
 -- the first faulty token of what is judged, or its early end
 pub record Faulty-token (text : List ℕ) (n p : ℕ) : Type 0 where
@@ -65,7 +73,7 @@ pub record Faulty-token (text : List ℕ) (n p : ℕ) : Type 0 where
   pub place : first (length (judged text)) rest .1 ≡ p
   pub begins : Begins (without-places before)
   pub refused : Not-allowed (without-places before) (first (length (judged text)) rest .0)
-  pub number : Number-fits (first (length (judged text)) rest .0) n
+  pub number : Number-fits (without-places before) (first (length (judged text)) rest .0) n
 
 -- a text that is a script so far, and goes on past 16,384 bytes
 pub record Too-long (text : List ℕ) (n p : ℕ) : Type 0 where
