@@ -18,8 +18,8 @@ use Rattle.grammar.specs.Makes.{Shaped, section-tokens, tag-section-tokens, it
 use Rattle.grammar.specs.Limits.{ItemsFit, SagasFit, Valid}
 use Rattle.grammar.specs.SoFar.{ahead, pairs, in-saga, told, sofar, Good}
 use Rattle.grammar.specs.Read.{Begins}
-use Rattle.grammar.specs.declared.Cell.{Cell}
-use Rattle.grammar.specs.declared.Tag.{Tag}
+use Rattle.terms.specs.declared.Level.{Level}
+use Rattle.terms.specs.declared.Tag.{Tag}
 use Rattle.grammar.specs.declared.Section.{Section}
 use Rattle.grammar.specs.declared.Section.the-variants.{Groups, Feeders}
 use Rattle.grammar.specs.declared.Item.{Item}
@@ -156,7 +156,7 @@ in-tags (suc n) l ts =
 in-pairs : (l : Layout) → Begins (pairs l)
 in-pairs l = from _ _ _ refl (in-tags 0 l [])
 
-in-section : (s : Section) (l : Layout) → ((cs : List Cell) → Begins (sofar (at (filled s cs l) [] (after s)))) → (n : ℕ) (cs : List Cell) → Begins (ahead s l ++ section-tokens s (length cs + n) cs)
+in-section : (s : Section) (l : Layout) → ((cs : List Level) → Begins (sofar (at (filled s cs l) [] (after s)))) → (n : ℕ) (cs : List Level) → Begins (ahead s l ++ section-tokens s (length cs + n) cs)
 in-section s l f zero cs = same _ _ (all-read l [] s 0 cs refl refl .0) (f cs)
 in-section s l f (suc n) cs =
     let m : suc n - 1 ≡ n = omega arith in
@@ -165,20 +165,20 @@ in-section s l f (suc n) cs =
     (ap (λ (k : ℕ). ahead s l ++ section-tokens s (length us + k) us) (sym m) ∙ sym (ceiling-text s l (suc n) cs 0 0 (omega arith)) ∙ two (ahead s l ++ section-tokens s (length cs + suc n) cs) (token.Number 0) (token.Number 0))
     (in-section s l f n us)
 
-in-feeders : (l : Layout) (n : ℕ) (cs : List Cell) → Begins (ahead Feeders l ++ section-tokens Feeders (length cs + n) cs)
+in-feeders : (l : Layout) (n : ℕ) (cs : List Level) → Begins (ahead Feeders l ++ section-tokens Feeders (length cs + n) cs)
 in-feeders l n cs = in-section Feeders l (λ us. in-pairs (filled Feeders us l)) n cs
 
-in-groups : (l : Layout) (n : ℕ) (cs : List Cell) → Begins (ahead Groups l ++ section-tokens Groups (length cs + n) cs)
+in-groups : (l : Layout) (n : ℕ) (cs : List Level) → Begins (ahead Groups l ++ section-tokens Groups (length cs + n) cs)
 in-groups l n cs = in-section Groups l (λ us. from _ _ _ refl (in-feeders (filled Groups us l) 0 [])) n cs
 
-in-cells : (s : Section) (l : Layout) (n : ℕ) (cs : List Cell) → Begins (ahead s l ++ section-tokens s (length cs + n) cs)
+in-cells : (s : Section) (l : Layout) (n : ℕ) (cs : List Level) → Begins (ahead s l ++ section-tokens s (length cs + n) cs)
 in-cells Groups l n cs = in-groups l n cs
 in-cells Feeders l n cs = in-feeders l n cs
 
 pub past-count : (s : Section) (l : Layout) (n : ℕ) → Begins ((ahead s l ++ token.Word (title s) ∷ []) ++ token.Number n ∷ [])
 past-count s l n = same _ _ (sym (count-text (ahead s l) (title s) n)) (in-cells s l n [])
 
-pub past-ceiling : (s : Section) (l : Layout) (n : ℕ) (cs : List Cell) (v c : ℕ) → 1 ≤ n → Begins (((ahead s l ++ section-tokens s (length cs + n) cs) ++ token.Number v ∷ []) ++ token.Number c ∷ [])
+pub past-ceiling : (s : Section) (l : Layout) (n : ℕ) (cs : List Level) (v c : ℕ) → 1 ≤ n → Begins (((ahead s l ++ section-tokens s (length cs + n) cs) ++ token.Number v ∷ []) ++ token.Number c ∷ [])
 past-ceiling s l n cs v c g = same _ _ (sym (ceiling-text s l n cs v c g)) (in-cells s l (n - 1) (cs ++ cell v c ∷ []))
 
 pub past-tag-count : (l : Layout) (n : ℕ) → Begins ((pairs l ++ token.Word word.Tags ∷ []) ++ token.Number n ∷ [])

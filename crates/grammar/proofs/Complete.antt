@@ -20,9 +20,9 @@ use Rattle.grammar.specs.Machine.{Layout, SagaItems, State, Place, Part, body,
 use Rattle.grammar.specs.Machine as machine
 use Rattle.grammar.specs.Makes.{request-tokens, item-tokens, items-tokens, sagas-tokens, cells-tokens, tags-tokens, section-tokens, tag-section-tokens, tokens-of, without-places}
 use Rattle.grammar.specs.Limits.{RequestFits, ItemsFit, SagasFit, CellsFit, TagsFit, Valid, Plain, Made-is-accepted}
-use Rattle.grammar.specs.declared.Tag.{Tag}
+use Rattle.terms.specs.declared.Tag.{Tag}
 use Rattle.grammar.specs.declared.Section.the-variants.{Groups, Feeders}
-use Rattle.grammar.specs.declared.Cell.{Cell}
+use Rattle.terms.specs.declared.Level.{Level}
 use Rattle.grammar.specs.declared.Section.{Section}
 use Rattle.terms.specs.declared.Request.{Request}
 use Rattle.grammar.specs.declared.Verb.{Verb}
@@ -123,9 +123,9 @@ sagas-accepted l d (s ∷ ss) f =
     ∙ sagas-accepted l (d ++ (s .0, s .1) ∷ []) ss (f .3)
     ∙ ap (λ (xs : List SagaItems). Ok (at l xs machine.sagas)) (append-assoc d ((s .0, s .1) ∷ []) ss))
 
-pub cells-accepted : (l : Layout) (d : List SagaItems) (s : Section) (js cs : List Cell) (ts : List Token) → CellsFit cs
+pub cells-accepted : (l : Layout) (d : List SagaItems) (s : Section) (js cs : List Level) (ts : List Token) → CellsFit cs
     → accept (more l d s (length cs) js) (cells-tokens cs ++ ts) ≡ accept (at (filled s (js ++ cs) l) d (after s)) ts
-cells-accepted l d s js [] ts f = ap (λ (xs : List Cell). accept (at (filled s xs l) d (after s)) ts) (sym (append-nil js))
+cells-accepted l d s js [] ts f = ap (λ (xs : List Level). accept (at (filled s xs l) d (after s)) ts) (sym (append-nil js))
 cells-accepted l d s js (c ∷ cs) ts f =
     let e : eqb (length (c ∷ cs)) 0 ≡ false = ne-eqb (length (c ∷ cs)) 0 (λ z. omega arith) in
     let v : c .value ≤ 1000000 = omega (arith, f .0, f .1) in
@@ -133,7 +133,7 @@ cells-accepted l d s js (c ∷ cs) ts f =
     rw (e, le-leb 0 (c .value) (omega arith), le-leb (c .value) 1000000 v, le-leb (c .value) (c .ceiling) (f .0), le-leb (c .ceiling) 1000000 (f .1))
     (ap (λ (k : ℕ). accept (more l d s k (js ++ c ∷ [])) (cells-tokens cs ++ ts)) m
     ∙ cells-accepted l d s (js ++ c ∷ []) cs ts (f .2)
-    ∙ ap (λ (xs : List Cell). accept (at (filled s xs l) d (after s)) ts) (append-assoc js (c ∷ []) cs))
+    ∙ ap (λ (xs : List Level). accept (at (filled s xs l) d (after s)) ts) (append-assoc js (c ∷ []) cs))
 
 tags-accepted : (l : Layout) (js ts : List Tag) (us : List Token) → TagsFit js ts
     → accept (moreTags l [] (length ts) js) (tags-tokens ts ++ us) ≡ accept (at (tagged (js ++ ts) l) [] machine.sagas) us
@@ -146,7 +146,7 @@ tags-accepted l js (t ∷ ts) us f =
     ∙ tags-accepted l (js ++ t ∷ []) ts us (f .2)
     ∙ ap (λ (xs : List Tag). accept (at (tagged xs l) [] machine.sagas) us) (append-assoc js (t ∷ []) ts))
 
-section-accepted : (l : Layout) (s : Section) (cs : List Cell) (ts : List Token) → length cs ≤ most s → CellsFit cs
+section-accepted : (l : Layout) (s : Section) (cs : List Level) (ts : List Token) → length cs ≤ most s → CellsFit cs
     → accept (at l [] (machine.heading s)) (section-tokens s (length cs) cs ++ ts) ≡ accept (at (filled s cs l) [] (after s)) ts
 section-accepted l Groups cs ts h f = rw (le-leb 0 (length cs) (omega arith), le-leb (length cs) 16 h) (cells-accepted l [] Groups [] cs ts f)
 section-accepted l Feeders cs ts h f = rw (le-leb 0 (length cs) (omega arith), le-leb (length cs) 32 h) (cells-accepted l [] Feeders [] cs ts f)

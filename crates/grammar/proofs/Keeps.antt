@@ -22,8 +22,8 @@ use Rattle.grammar.specs.Machine as machine
 use Rattle.grammar.specs.Makes.{Shaped, Nests, AllNest}
 use Rattle.grammar.specs.Limits.{RequestFits, StockFits, MoveFits, TagFits, ItemsFit, SagasFit, CellsFit, TagsFit, Valid}
 use Rattle.grammar.specs.SoFar.{Good}
-use Rattle.grammar.specs.declared.Cell.{Cell}
-use Rattle.grammar.specs.declared.Tag.{Tag}
+use Rattle.terms.specs.declared.Level.{Level}
+use Rattle.terms.specs.declared.Tag.{Tag}
 use Rattle.grammar.specs.declared.Section.{Section}
 use Rattle.grammar.specs.declared.Section.the-variants.{Groups, Feeders}
 use Rattle.grammar.specs.declared.Verb.{Verb}
@@ -35,7 +35,7 @@ use Rattle.grammar.specs.declared.Item.the-variants as item
 use Rattle.grammar.proofs.Sound.{not-ok, into-ok}
 use Rattle.grammar.proofs.Grows.{append-nil, one-le, unless-listed, if-listed, unless-same}
 
-abbrev SectionFits : Section → List Cell → Type 0
+abbrev SectionFits : Section → List Level → Type 0
 SectionFits s cs = (length cs ≤ most s) × CellsFit cs
 
 abbrev AheadFits : Section → Layout → Type 0
@@ -163,7 +163,7 @@ head-room n left (token.Bad c) h = λ e. absurd (not-ok e)
 head-room n left token.End h = λ e. absurd (not-ok e)
 
 -- one more at the end
-cells-more : (cs : List Cell) (v c : ℕ) → CellsFit cs → v ≤ c → c ≤ 1000000 → CellsFit (cs ++ cell v c ∷ [])
+cells-more : (cs : List Level) (v c : ℕ) → CellsFit cs → v ≤ c → c ≤ 1000000 → CellsFit (cs ++ cell v c ∷ [])
 cells-more [] v c f p q = (p, q, tt)
 cells-more (x ∷ cs) v c f p q = (f .0, f .1, cells-more cs v c (f .2) p q)
 
@@ -191,11 +191,11 @@ pushed l o i k ps f g h =
     }
 
 -- all pairs of a section are read
-all-kept : (l : Layout) (d : List SagaItems) (s : Section) (cs : List Cell) → AheadFits s l → length cs ≤ most s → CellsFit cs → Kept (at (filled s cs l) d (after s))
+all-kept : (l : Layout) (d : List SagaItems) (s : Section) (cs : List Level) → AheadFits s l → length cs ≤ most s → CellsFit cs → Kept (at (filled s cs l) d (after s))
 all-kept l d Groups cs a n f = (n, f)
 all-kept l d Feeders cs a n f = (a, (n, f))
 
-more-kept : (l : Layout) (d : List SagaItems) (s : Section) (n : ℕ) (cs : List Cell) → AheadFits s l → length cs + n ≤ most s → CellsFit cs → Kept (more l d s n cs)
+more-kept : (l : Layout) (d : List SagaItems) (s : Section) (n : ℕ) (cs : List Level) → AheadFits s l → length cs + n ≤ most s → CellsFit cs → Kept (more l d s n cs)
 more-kept l d s n cs a m f =
     cond-both (eqb n 0) _ _ (λ (u : State). Kept u) (λ e. all-kept l d s cs a (omega (arith, m)) f) (λ _. (a, m, f))
 

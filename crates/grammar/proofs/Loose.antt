@@ -21,8 +21,8 @@ use Rattle.terms.specs.declared.Request.{Request}
 use Rattle.grammar.specs.Machine.{Layout, SagaItems, State, Place, Part, body, other, at, into, title, more, moreTags, filled, tagged, after, cell, aTag, request, stock, shift, hung, did, turned, opened, fresh, headed, headWord, aStep, aHead, aStart, newName, oldName, unlessListed, ifListed, unlessSame, otherFeeder, listed, left, most, start, empty, step, move}
 use Rattle.grammar.specs.Machine as machine
 use Rattle.grammar.specs.Makes.{request-tokens, item-tokens, items-tokens, sagas-tokens, cells-tokens, tags-tokens, section-tokens, tag-section-tokens, tokens-of, Shaped, Nests, AllNest}
-use Rattle.grammar.specs.declared.Cell.{Cell}
-use Rattle.grammar.specs.declared.Tag.{Tag}
+use Rattle.terms.specs.declared.Level.{Level}
+use Rattle.terms.specs.declared.Tag.{Tag}
 use Rattle.grammar.specs.declared.Section.{Section}
 use Rattle.grammar.specs.declared.Section.the-variants.{Groups, Feeders}
 use Rattle.grammar.specs.declared.Verb.{Verb}
@@ -279,16 +279,16 @@ sagas-allowed l d (s ∷ ss) f =
     ∙ sagas-allowed l (d ++ (s .0, s .1) ∷ []) ss (f .1)
     ∙ ap (λ (xs : List SagaItems). Ok (at l xs machine.sagas)) (append-assoc d ((s .0, s .1) ∷ []) ss)
 
-cells-allowed : (l : Layout) (s : Section) (js cs : List Cell) (ts : List Token)
+cells-allowed : (l : Layout) (s : Section) (js cs : List Level) (ts : List Token)
     → allow (more l [] s (length cs) js) (cells-tokens cs ++ ts) ≡ allow (at (filled s (js ++ cs) l) [] (after s)) ts
-cells-allowed l s js [] ts = ap (λ (xs : List Cell). allow (at (filled s xs l) [] (after s)) ts) (sym (append-nil js))
+cells-allowed l s js [] ts = ap (λ (xs : List Level). allow (at (filled s xs l) [] (after s)) ts) (sym (append-nil js))
 cells-allowed l s js (c ∷ cs) ts =
     let e : eqb (length (c ∷ cs)) 0 ≡ false = ne-eqb (length (c ∷ cs)) 0 (λ z. omega arith) in
     let m : length (c ∷ cs) - 1 ≡ length cs = omega arith in
     rw e
     (ap (λ (k : ℕ). allow (more l [] s k (js ++ c ∷ [])) (cells-tokens cs ++ ts)) m
     ∙ cells-allowed l s (js ++ c ∷ []) cs ts
-    ∙ ap (λ (xs : List Cell). allow (at (filled s xs l) [] (after s)) ts) (append-assoc js (c ∷ []) cs))
+    ∙ ap (λ (xs : List Level). allow (at (filled s xs l) [] (after s)) ts) (append-assoc js (c ∷ []) cs))
 
 tags-allowed : (l : Layout) (js ts : List Tag) (us : List Token)
     → allow (moreTags l [] (length ts) js) (tags-tokens ts ++ us) ≡ allow (at (tagged (js ++ ts) l) [] machine.sagas) us
@@ -301,7 +301,7 @@ tags-allowed l js (t ∷ ts) us =
     ∙ tags-allowed l (js ++ t ∷ []) ts us
     ∙ ap (λ (xs : List Tag). allow (at (tagged xs l) [] machine.sagas) us) (append-assoc js (t ∷ []) ts))
 
-section-allowed : (l : Layout) (s : Section) (cs : List Cell) (ts : List Token)
+section-allowed : (l : Layout) (s : Section) (cs : List Level) (ts : List Token)
     → allow (at l [] (machine.heading s)) (section-tokens s (length cs) cs ++ ts) ≡ allow (at (filled s cs l) [] (after s)) ts
 section-allowed l Groups cs ts = cells-allowed l Groups [] cs ts
 section-allowed l Feeders cs ts = cells-allowed l Feeders [] cs ts

@@ -27,7 +27,7 @@ use Rattle.grammar.proofs.Beginnings.{from, begins, nested, past-count, past-c
 use Rattle.grammar.specs.declared.Head.{Head}
 use Rattle.grammar.specs.declared.Verb.{Verb}
 use Rattle.grammar.specs.declared.Verb.the-variants as verb
-use Rattle.grammar.specs.declared.Tag.{Tag}
+use Rattle.terms.specs.declared.Tag.{Tag}
 
 not-err : {X : Type 0} {g : Cause} {x : X} → _≡_ {A = Result X Cause} (Ok x) (Err g) → ⊥
 not-err e = grind arith

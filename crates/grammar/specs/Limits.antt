@@ -10,14 +10,14 @@ use Rattle.tokens.specs.declared.text.Token.{Token}
 use Rattle.grammar.specs.Machine.{Layout, SagaItems, Part, body, other, listed, at, run, start}
 use Rattle.grammar.specs.Machine as machine
 use Rattle.grammar.specs.Makes.{tokens-of, shown, without-places}
-use Rattle.grammar.specs.declared.Cell.{Cell}
-use Rattle.grammar.specs.declared.Tag.{Tag}
+use Rattle.terms.specs.declared.Level.{Level}
+use Rattle.terms.specs.declared.Tag.{Tag}
 use Rattle.terms.specs.declared.Request.{Request}
 use Rattle.grammar.specs.declared.Item.{Item}
 use Rattle.grammar.specs.declared.Item.the-variants as item
 
 -- no value above its ceiling
-abbrev pub CellsFit : List Cell → Type 0
+abbrev pub CellsFit : List Level → Type 0
 CellsFit [] = Unit {0}
 CellsFit (c ∷ cs) = (c .value ≤ c .ceiling) × (c .ceiling ≤ 1000000) × CellsFit cs
 

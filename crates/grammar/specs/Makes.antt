@@ -12,15 +12,15 @@ use Rattle.tokens.specs.declared.text.Token.the-variants.{Word, Name, Number, O
 use Rattle.tokens.specs.declared.text.Word.{Word as Words}
 use Rattle.tokens.specs.declared.text.Word.the-variants as word
 use Rattle.grammar.specs.Machine.{Layout, SagaItems, State, Part, body, other, title, run, start}
-use Rattle.grammar.specs.declared.Cell.{Cell}
-use Rattle.grammar.specs.declared.Tag.{Tag}
+use Rattle.terms.specs.declared.Level.{Level}
+use Rattle.terms.specs.declared.Tag.{Tag}
 use Rattle.grammar.specs.declared.Section.{Section}
 use Rattle.grammar.specs.declared.Section.the-variants.{Groups, Feeders}
 use Rattle.terms.specs.declared.Request.{Request}
 use Rattle.grammar.specs.declared.Item.{Item}
 use Rattle.grammar.specs.declared.Item.the-variants as item
 
-abbrev pub cells-tokens : List Cell → List Token
+abbrev pub cells-tokens : List Level → List Token
 cells-tokens [] = []
 cells-tokens (c ∷ cs) = Number (c .value) ∷ Number (c .ceiling) ∷ cells-tokens cs
 
@@ -29,7 +29,7 @@ tags-tokens [] = []
 tags-tokens (t ∷ ts) = Name (t .name) ∷ Number (t .value) ∷ tags-tokens ts
 
 -- the word, the count and the pairs of a section
-abbrev pub section-tokens : Section → ℕ → List Cell → List Token
+abbrev pub section-tokens : Section → ℕ → List Level → List Token
 section-tokens s n cs = Word (title s) ∷ Number n ∷ cells-tokens cs
 
 abbrev pub tag-section-tokens : ℕ → List Tag → List Token

@@ -1,21 +1,9 @@
 //! What a script is, and what the grammar makes of it.
+use terms::Level;
 use terms::Request;
+use terms::Tag;
 
 pub mod readers;
-
-/// A cell of stock or ledger, as the site lists it.
-#[derive(Clone, Copy)]
-pub struct Cell {
-    pub value: u32,
-    pub ceiling: u32,
-}
-
-/// A tag of the registry, as the site lists it. Its name is its number: the bytes, high byte first, then zero bytes up to eight.
-#[derive(Clone, Copy)]
-pub struct Tag {
-    pub name: u64,
-    pub value: u32,
-}
 
 /// The sections of the site that list cells.
 #[derive(Clone, Copy)]
@@ -27,8 +15,8 @@ pub enum Section {
 /// What the participants start with.
 #[derive(Drop)]
 pub struct Site {
-    pub groups: Vec<Cell>,
-    pub feeders: Vec<Cell>,
+    pub groups: Vec<Level>,
+    pub feeders: Vec<Level>,
     pub tags: Vec<Tag>,
 }
 

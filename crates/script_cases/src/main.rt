@@ -4,7 +4,7 @@ ghost use Prim.Native.Nat.{_≤_};
 ghost use lib.ListN.{length};
 ghost use Rattle.std.specs.Of.Vec.{vec-len};
 ghost use Rattle.std.specs.Vec.{made};
-use grammar::Cell;
+use terms::Level;
 use grammar::Item;
 use grammar::Script;
 use std::alloc::AllocError;
@@ -29,7 +29,7 @@ fn text_of(heap: Global, line: &[u8]) -> Result<Vec<u8>, AllocError>
     Ok(text)
 }
 
-fn show_cells(rt: &LibcRuntime, word: &str, cells: &[Cell]) -> io::Result<()> {
+fn show_cells(rt: &LibcRuntime, word: &str, cells: &[Level]) -> io::Result<()> {
     let count = cells.len();
     print!(rt, "{word} {count}")?;
     for cell in cells {
