@@ -211,10 +211,10 @@ advances w s m =
     advances-by w s (seen .phase) (seen .note) (x .0) (x .1) (phase-seen (x .0) seen (x .2)) m)
 
 restarts-by : (w : World) (y : Result (Sagas Memory) ℕ) → reading (count-of (w .parties)) Blank (w .records) ≡ y → In (restart-by w y)
-restarts-by w (Err i) e = record { holds = unready _ refl }
+restarts-by w (Err i) e = record { holds = unready (started w false (sagas 0 [])) refl }
 restarts-by w (Ok t) e =
     let P : Told-world → Type 0 = λ y. In y in
-    cond-both (ltb (w .capacity - length (w .records)) (owed t)) _ _ P (λ _. record { holds = unready _ refl }) (λ _.
+    cond-both (ltb (w .capacity - length (w .records)) (owed t)) _ _ P (λ _. record { holds = unready (started w false (sagas 0 [])) refl }) (λ _.
     record { holds = λ _. read-bare (count-of (w .parties)) Blank 0 (sagas 0 []) t (w .records) e })
 
 pub mirrored : Mirrored
