@@ -2,7 +2,7 @@
 use crate::memory::Memory;
 use law::table::Table;
 
-// pub mod calls;
+pub mod calls;
 pub mod reads;
 pub mod writes;
 
