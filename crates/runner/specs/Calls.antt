@@ -33,13 +33,13 @@ use Rattle.runner.specs.declared.memory.Memory.the-variants.{Blank, Told}
 use Rattle.runner.specs.declared.fault.RunnerFault.{RunnerFault}
 use Rattle.runner.specs.declared.fault.RunnerFault.the-variants.{SagaNumber, NoParticipant, UnlawfulRecord, ShortOfPlaces, Unread, StillStepping, NoOpenSaga, NumberNotAbove, TooManyOpen, NoRoom, WrongPhase, LimitReached, WrongMarks}
 use Rattle.runner.specs.declared.ticket.Ticket.{Ticket}
-use Rattle.runner.specs.declared.ticket.Waiting.{Waiting}
+use Rattle.runner.specs.declared.waiting.Waiting.{Waiting}
 use Rattle.runner.specs.declared.ticket.Stepped.{Stepped}
 use Rattle.runner.specs.declared.ticket.Stepped.the-variants.{Issued, NotIssued}
 use Rattle.runner.specs.declared.ticket.Ended.{Ended}
 use Rattle.runner.specs.declared.ticket.Ended.the-variants.{Closing, Spent, NotEnded}
-use Rattle.runner.specs.declared.ticket.Answered.{Answered}
-use Rattle.runner.specs.declared.ticket.Answered.the-variants.{Answer as Told-of, SlipSpent, NotYet}
+use Rattle.runner.specs.declared.waiting.Answered.{Answered}
+use Rattle.runner.specs.declared.waiting.Answered.the-variants.{Answer as Told-of, SlipSpent, NotYet}
 use Rattle.runner.specs.Slips.{ticket-of, slip-of, ready-of}
 use Rattle.runner.specs.Worlds.{World, lacks, written, by-view, on-open, on-running, on-saga, if-running, with-memory}
 

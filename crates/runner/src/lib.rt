@@ -3,3 +3,4 @@ pub mod fault;
 pub mod memory;
 pub mod runner;
 pub mod ticket;
+pub mod waiting;

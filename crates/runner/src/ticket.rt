@@ -1,11 +1,10 @@
-//! The right to order a saga's next step, and the slip while a step is on its way.
-//!
-//! Both are moved from call to call, and may be let go only when spent: number 0, which no saga has. Only the runner
-//! makes one, exchanges one for the other or spends one.
+//! The right to order a saga on. It is moved from call to call, and may be let go only when spent: number 0, which no
+//! saga has. Only the runner makes one, exchanges it for a slip or spends it.
 ghost use mathlib.Core.Path.{_≡_};
-ghost use Rattle.runner.specs.Slips.{slip-of, ready-of};
+ghost use Rattle.runner.specs.declared.ticket.Ended.the-variants.{Spent};
+ghost use Rattle.runner.specs.Slips.{slip-of};
 use crate::fault::RunnerFault;
-use law::event::Outcome;
+use crate::waiting::Waiting;
 
 /// The saga may be ordered on: by step, finish or cancel, which take the ticket.
 pub struct Ticket {
@@ -33,44 +32,19 @@ impl Ticket {
         } = self;
     }
 
+    /// A ticket of no open saga is spent, and the fault told.
+    pub(crate) fn spent(self, fault: RunnerFault) -> Ended
+        ensures { λ r. ⌜ r ≡ Spent fault ⌝ }
+    {
+        self.spend();
+        Ended::Spent(fault)
+    }
+
     pub(crate) fn wait(self) -> Waiting
         ensures { λ r. ⌜ r ≡ slip-of self ⌝ }
     {
         let Ticket { saga, restart } = self;
         Waiting { saga, restart }
-    }
-}
-
-/// A step is on its way: the slip gives the ticket back once its outcome is recorded.
-pub struct Waiting {
-    pub(crate) saga: u32,
-    pub(crate) restart: u64,
-}
-
-impl Drop for Waiting {
-    fn drop(self)
-        requires { ⌜ self .saga ≡ 0 ⌝ }
-    {
-        let Waiting {
-            saga: _,
-            restart: _,
-        } = self;
-    }
-}
-
-impl Waiting {
-    pub(crate) fn spend(self) {
-        let Waiting {
-            saga: _,
-            restart: _,
-        } = self;
-    }
-
-    pub(crate) fn ready(self) -> Ticket
-        ensures { λ r. ⌜ r ≡ ready-of self ⌝ }
-    {
-        let Waiting { saga, restart } = self;
-        Ticket { saga, restart }
     }
 }
 
@@ -87,12 +61,4 @@ pub enum Ended {
     Closing,
     Spent(RunnerFault),
     NotEnded(Ticket, RunnerFault),
-}
-
-/// Of answer: a slip of no open saga is spent.
-#[derive(Drop)]
-pub enum Answered {
-    Answer(Ticket, Outcome),
-    SlipSpent(RunnerFault),
-    NotYet(Waiting, RunnerFault),
 }

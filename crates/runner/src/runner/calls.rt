@@ -1,18 +1,18 @@
 //! The calls that move a saga.
 ghost use mathlib.Core.Path.{_≡_};
 ghost use Prim.Native.Nat.{ℕ, _+_, _≤_};
-ghost use Rattle.runner.specs.Worlds.{world, One-write};
-ghost use Rattle.runner.specs.Calls.{opened, stepped, marked, joined, backed, finished, cancelled, advanced, answered};
+ghost use Rattle.runner.specs.Worlds.{world, written, One-write};
+ghost use Rattle.runner.specs.Calls.{end-by, opened, stepped, marked, joined, backed, finished, cancelled, advanced, answered};
 use crate::fault::RunnerFault;
 use crate::memory::Memory;
 use crate::runner::Runner;
 use crate::runner::writes::ask;
 use crate::runner::writes::told;
-use crate::ticket::Answered;
 use crate::ticket::Ended;
 use crate::ticket::Stepped;
 use crate::ticket::Ticket;
-use crate::ticket::Waiting;
+use crate::waiting::Answered;
+use crate::waiting::Waiting;
 use bank::bank::Bank;
 use journals::traits::Journal;
 use law::event::Aim;
@@ -91,16 +91,13 @@ impl<J: Journal, B: Bank> Runner<J, B> {
         ensures { λ r. ⌜ r ≡ answered slip (world (J·JournalRead .records) (J·Journal .capacity) (B·Bank .parties) (now (self .entry))) ⌝ }
     {
         if !self.ready {
-            slip.spend();
-            return Answered::SlipSpent(RunnerFault::Unread);
+            return slip.spent(RunnerFault::Unread);
         }
         if slip.restart != self.restarts {
-            slip.spend();
-            return Answered::SlipSpent(RunnerFault::NoOpenSaga);
+            return slip.spent(RunnerFault::NoOpenSaga);
         }
         let Some(seen) = self.table.find(slip.saga) else {
-            slip.spend();
-            return Answered::SlipSpent(RunnerFault::NoOpenSaga);
+            return slip.spent(RunnerFault::NoOpenSaga);
         };
         match seen.phase {
             Phase::Pending(Aim::Stepping, _) => Answered::NotYet(slip, RunnerFault::StillStepping),
@@ -186,30 +183,12 @@ impl<J: Journal, B: Bank> Runner<J, B> {
         self.write(ticket.saga, Event::Back(depth))
     }
 
-    /// Ends the saga: its standing steps are to be settled. Checks 30, 32, 36, 38; the first two spend the ticket.
-    pub fn finish(&mut self, ticket: Ticket) -> Ended
-        ensures after { λ r. ⌜ (r, world (J·JournalRead .records) (J·Journal .capacity) (B·Bank .parties) (now (self .exit))) ≡ finished ticket (world (J·JournalRead .records) (J·Journal .capacity) (B·Bank .parties) (now (self .entry))) ⌝ }
+    /// Writes the record that ends a saga, and spends its ticket.
+    fn end(&mut self, ticket: Ticket, event: Event) -> Ended
+        ensures after { λ r. ⌜ (r, world (J·JournalRead .records) (J·Journal .capacity) (B·Bank .parties) (now (self .exit))) ≡ end-by ticket (written (ticket .saga) event (world (J·JournalRead .records) (J·Journal .capacity) (B·Bank .parties) (now (self .entry)))) ⌝ }
         ensures cost { λ r. ⌜ One-write (J·Journal .writes) (J·Journal .lender) (B·Bank .writes) (now (self .entry)) (now (self .exit)) ⌝ }
     {
-        if !self.ready {
-            ticket.spend();
-            return Ended::Spent(RunnerFault::Unread);
-        }
-        if ticket.restart != self.restarts {
-            ticket.spend();
-            return Ended::Spent(RunnerFault::NoOpenSaga);
-        }
-        let Some(seen) = self.table.find(ticket.saga) else {
-            ticket.spend();
-            return Ended::Spent(RunnerFault::NoOpenSaga);
-        };
-        let Phase::Running = seen.phase else {
-            return Ended::NotEnded(ticket, RunnerFault::WrongPhase);
-        };
-        if seen.marks != 0 {
-            return Ended::NotEnded(ticket, RunnerFault::WrongMarks);
-        }
-        match self.write(ticket.saga, Event::Finish) {
+        match self.write(ticket.saga, event) {
             Ok(()) => {
                 ticket.spend();
                 Ended::Closing
@@ -218,33 +197,47 @@ impl<J: Journal, B: Bank> Runner<J, B> {
         }
     }
 
+    /// Ends the saga: its standing steps are to be settled. Checks 30, 32, 36, 38; the first two spend the ticket.
+    pub fn finish(&mut self, ticket: Ticket) -> Ended
+        ensures after { λ r. ⌜ (r, world (J·JournalRead .records) (J·Journal .capacity) (B·Bank .parties) (now (self .exit))) ≡ finished ticket (world (J·JournalRead .records) (J·Journal .capacity) (B·Bank .parties) (now (self .entry))) ⌝ }
+        ensures cost { λ r. ⌜ One-write (J·Journal .writes) (J·Journal .lender) (B·Bank .writes) (now (self .entry)) (now (self .exit)) ⌝ }
+    {
+        if !self.ready {
+            return ticket.spent(RunnerFault::Unread);
+        }
+        if ticket.restart != self.restarts {
+            return ticket.spent(RunnerFault::NoOpenSaga);
+        }
+        let Some(seen) = self.table.find(ticket.saga) else {
+            return ticket.spent(RunnerFault::NoOpenSaga);
+        };
+        let Phase::Running = seen.phase else {
+            return Ended::NotEnded(ticket, RunnerFault::WrongPhase);
+        };
+        if seen.marks != 0 {
+            return Ended::NotEnded(ticket, RunnerFault::WrongMarks);
+        }
+        self.end(ticket, Event::Finish)
+    }
+
     /// Cancels the saga: its standing steps are to be undone. Checks 30, 32, 36; the first two spend the ticket.
     pub fn cancel(&mut self, ticket: Ticket) -> Ended
         ensures after { λ r. ⌜ (r, world (J·JournalRead .records) (J·Journal .capacity) (B·Bank .parties) (now (self .exit))) ≡ cancelled ticket (world (J·JournalRead .records) (J·Journal .capacity) (B·Bank .parties) (now (self .entry))) ⌝ }
         ensures cost { λ r. ⌜ One-write (J·Journal .writes) (J·Journal .lender) (B·Bank .writes) (now (self .entry)) (now (self .exit)) ⌝ }
     {
         if !self.ready {
-            ticket.spend();
-            return Ended::Spent(RunnerFault::Unread);
+            return ticket.spent(RunnerFault::Unread);
         }
         if ticket.restart != self.restarts {
-            ticket.spend();
-            return Ended::Spent(RunnerFault::NoOpenSaga);
+            return ticket.spent(RunnerFault::NoOpenSaga);
         }
         let Some(seen) = self.table.find(ticket.saga) else {
-            ticket.spend();
-            return Ended::Spent(RunnerFault::NoOpenSaga);
+            return ticket.spent(RunnerFault::NoOpenSaga);
         };
         let Phase::Running = seen.phase else {
             return Ended::NotEnded(ticket, RunnerFault::WrongPhase);
         };
-        match self.write(ticket.saga, Event::Back(0)) {
-            Ok(()) => {
-                ticket.spend();
-                Ended::Closing
-            }
-            Err(fault) => Ended::NotEnded(ticket, fault),
-        }
+        self.end(ticket, Event::Back(0))
     }
 
     /// Makes the participant call that the law has next, and answers 1; or records what it came to, and answers 2. Checks
