@@ -1,4 +1,4 @@
-//! A journal that is a table of its own.
+//! A journal that is a table of its own: the simulator's.
 ghost use mathlib.Core.Path.{_≡_};
 ghost use mathlib.Core.List.{[]};
 ghost use lib.ListN.{length};
@@ -29,6 +29,7 @@ pub struct TableJournal {
 }
 
 impl TableJournal {
+    /// A journal without records.
     pub fn new() -> TableJournal
         ensures { λ r. ⌜ held (r .list) ≡ [] ⌝ }
     {

@@ -5,7 +5,8 @@ ghost use Prim.Native.Nat.{ℕ};
 ghost use Rattle.record.specs.Writes.{Write, write, done};
 ghost use Rattle.record.specs.Cutting.{cut-writer, cut-wrote, cut-next};
 
-/// Writes bytes one at a time. Code that is generic over it cannot see whether it will be cut, and a contract that holds for every writer fixes the writes that the code makes and their order.
+/// Writes bytes one at a time. Code that is generic over it cannot see whether it will be cut,
+/// and a contract that holds for every writer fixes the writes that the code makes and their order.
 pub trait ByteWriter {
     // What one write leaves of the bytes.
     ghost wrote: { Self → Write → List ℕ → List ℕ };
@@ -13,6 +14,7 @@ pub trait ByteWriter {
     // The writer after one write.
     ghost next: { Self → Self };
 
+    /// Writes one byte to a place.
     fn put(&mut self, bytes: &mut [u8], place: usize, byte: u8)
         ensures bytes { λ _. ⌜ now (bytes .exit) ≡ wrote (now (self .entry)) (write place byte) (now (bytes .entry)) ⌝ }
         ensures writer { λ _. ⌜ now (self .exit) ≡ next (now (self .entry)) ⌝ };
@@ -41,7 +43,8 @@ pub impl ByteWriter for Uncut as UncutWriter {
     }
 }
 
-/// The writer of a program that is cut: so many writes are done, the next comes out as `junk` unless it is a mark, which stays, and no later one is done.
+/// The writer of a program that is cut: so many writes are done, the next comes out as `junk`
+/// unless it is a mark, which stays, and no later one is done.
 #[derive(Clone, Copy)]
 pub struct CutAfter {
     left: usize,
@@ -50,6 +53,7 @@ pub struct CutAfter {
 }
 
 impl CutAfter {
+    /// Cut after so many writes.
     pub fn new(writes: usize, junk: u8) -> CutAfter
         ensures { λ r. ⌜ r ≡ cut-writer writes junk ⌝ }
     {

@@ -3,7 +3,7 @@ ghost use mathlib.Core.Bool.{Bool, true};
 ghost use mathlib.Core.List.{List, map};
 ghost use Prim.Native.Nat.{ℕ, _+_, _-_, _<_, _≤_};
 ghost use lib.ListN.{length};
-ghost use Rattle.bounded.specs.Held.{held};
+ghost use Rattle.bounded.specs.Held.{held, push-after};
 ghost use Rattle.participants.specs.Effects.{effect};
 ghost use Rattle.participants.specs.Party.{do-answer, do-after, undo-after, settle-after, taken-off, stands, value-of, lowered, raised, Raisable};
 ghost use Rattle.participants.specs.Opening.{opened-on};
@@ -67,6 +67,13 @@ fn raise<const C: usize>(cells: &mut Bounded<Cell, C>, side: Side, q: &Request)
     }
 }
 
+// Entries stand in the order in which they were let in.
+fn join(entries: &mut Bounded<Entry, 64>, entry: Entry)
+    ensures { λ _. ⌜ held (now (entries .exit)) ≡ push-after 64 (held (now (entries .entry))) entry ⌝ }
+{
+    entries.push(entry);
+}
+
 /// What stands in the places that no entry has taken yet.
 const NO_ENTRY: Entry = Entry {
     key: Key { saga: 0, step: 0 },
@@ -109,7 +116,7 @@ impl<const C: usize> Book<C> {
         );
         if let Answer::Done = answer {
             lower(&mut self.cells, &entry.request);
-            self.entries.push(entry);
+            join(&mut self.entries, entry);
         }
         answer
     }

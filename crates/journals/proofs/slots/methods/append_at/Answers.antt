@@ -1,4 +1,3 @@
-use mathlib.Core.Path.{_∙_}
 use native.Mathlib.Omega.{arith}
 use Rattle.journals.specs.Bytes.{capacity-of}
 use Rattle.journals.proofs.Counted.{marked-le}
@@ -25,6 +24,6 @@ returns g c =
     let s = c .args .bytes .now in
     record {
       answer = room-answer s (c .args .n) (c .slots-in-all .result) (c .pre) (c .slots-in-all .ensures) (c .if-n-all .left);
-      bytes = c .write-slot .ensures .bytes ∙ room-written s (c .args .n) (c .slots-in-all .result) (c .pre) (c .slots-in-all .ensures) (c .if-n-all .left) (g .W·ByteWriter .wrote) (g .W·ByteWriter .next) (c .args .writer .now) (c .args .r);
+      bytes = let e = room-written s (c .args .n) (c .slots-in-all .result) (c .pre) (c .slots-in-all .ensures) (c .if-n-all .left) (g .W·ByteWriter .wrote) (g .W·ByteWriter .next) (c .args .writer .now) (c .args .r) in cc;
       fits = λ _. c .write-slot .ensures .fits;
     }

@@ -11,7 +11,7 @@ pub ghost-self : need.ghost-self
 ghost-self g c =
     let s = c .args .self .now in
     let yes : Done ≡ do-answer (book-party s) (c .args .entry) = c .in-Done .ensures tt ∙ ap (λ (q : Party). do-answer q (c .args .entry)) (same-party _ _ _ _ _ _ (c .as-slice .ensures) (c .as-slice-2 .ensures) (c .as-slice-3 .ensures)) in
-    (performed-once (book-party s) (c .args .entry) (held (c .lower .last .cells)) _ yes (c .lower .ensures) (c .push .ensures .after) (s .once), (performed-sound (book-party s) (c .args .entry) _ _ yes (c .lower .ensures) (c .push .ensures .after) (s .sound), tt))
+    (performed-once (book-party s) (c .args .entry) (held (c .lower .last .cells)) _ yes (c .lower .ensures) (c .join .ensures) (s .once), (performed-sound (book-party s) (c .args .entry) _ _ yes (c .lower .ensures) (c .join .ensures) (s .sound), tt))
 
 pub returns-in-Done : need.returns-in-Done
 returns-in-Done g c =
@@ -20,5 +20,5 @@ returns-in-Done g c =
     let yes : Done ≡ do-answer (book-party s) (c .args .entry) = c .in-Done .ensures tt ∙ ap (λ (q : Party). do-answer q (c .args .entry)) same in
     record {
       answer = c .judge-answer .ensures ∙ ap (λ (q : Party). do-answer q (c .args .entry)) same;
-      after = performed (book-party s) (c .args .entry) _ _ yes (c .lower .ensures) (c .push .ensures .after);
+      after = performed (book-party s) (c .args .entry) _ _ yes (c .lower .ensures) (c .join .ensures);
     }

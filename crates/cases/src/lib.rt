@@ -1,0 +1,2 @@
+//! Worked examples, run on the code.
+pub mod bank;
