@@ -29,7 +29,9 @@ use terms::RETURN;
 use terms::Request;
 
 const STOCK: u8 = 1;
+
 const LEDGER: u8 = 2;
+
 const REGISTRY: u8 = 3;
 
 const SLOTS: usize = 1024;

@@ -7,6 +7,7 @@ ghost use Rattle.law.specs.Sagas.{reading};
 ghost use Rattle.law.specs.Tables.{table-read};
 ghost use Rattle.runner.specs.declared.memory.Memory.the-variants.{Blank};
 ghost use Rattle.runner.specs.Mirrors.{Mirrored};
+ghost use Rattle.runner.specs.Rooms.{Room};
 ghost use Rattle.runner.specs.Worlds.{world, One-write, lacks};
 ghost use Rattle.runner.specs.Calls.{restarted, phase-read, unread-world};
 use crate::fault::RunnerFault;
@@ -85,6 +86,7 @@ impl<J: Journal, B: Bank> Runner<J, B> {
         ensures after { λ r. ⌜ (r, world (J·JournalRead .records) (J·Journal .capacity) (B·Bank .parties) (now (self .exit))) ≡ restarted (world (J·JournalRead .records) (J·Journal .capacity) (B·Bank .parties) (now (self .entry))) ⌝ }
         ensures cost { λ r. ⌜ One-write (J·Journal .writes) (J·Journal .lender) (B·Bank .writes) (now (self .entry)) (now (self .exit)) ⌝ }
         ensures law { λ _. ⌜ Mirrored ⌝ }
+        ensures room { λ _. ⌜ Room ⌝ }
     {
         self.restarts = self.restarts.wrapping_add(1);
         self.ready = false;
