@@ -327,4 +327,5 @@ module _ {V : Type 0} where
     within = λ n v rs i e. let w = first-read n v rs [] 0 i (sagas 0 []) e in omega (arith, w .0);
     first = λ n v rs more i e. first-read n v rs more 0 i (sagas 0 []) e .1;
     undone-first = λ n v. refl;
+    step-again = λ v q. refl;
   }

@@ -7,12 +7,13 @@ use Rattle.std.specs.Finite.{nth}
 use Rattle.std.specs.shelf.Lists.{All}
 use Rattle.std.specs.declared.option.Option.the-variants.{Some}
 use Rattle.std.specs.declared.result.Result.the-variants.{Ok, Err}
+use Rattle.terms.specs.declared.Request.{Request}
 use Rattle.record.specs.declared.Record.{Record}
 use Rattle.law.specs.declared.event.Step.{Step}
 use Rattle.law.specs.declared.event.Phase.{Phase}
 use Rattle.law.specs.declared.event.Phase.the-variants.{Running, Pending, Closed}
 use Rattle.law.specs.declared.event.Aim.the-variants.{Stepping, Retreating, Finishing}
-use Rattle.law.specs.declared.event.Event.the-variants.{Begin, Undone}
+use Rattle.law.specs.declared.event.Event.the-variants.{Begin, Intent, Done, Mark, Back, Undone}
 use Rattle.law.specs.Events.{record-of}
 use Rattle.law.specs.Law.{Saga}
 use Rattle.law.specs.Sagas.{Sagas, reading}
@@ -52,6 +53,12 @@ pub record Keeps {V : Type 0} (t : Sagas V) : Type 0 where
   -- their numbers are at least 1, none twice, and at most the highest begun
   pub ordered : Ordered 0 (t .top) (t .rows)
 
+-- saga 5 sets a mark, does step 1, goes back to the mark and issues step 1 again
+abbrev pub issued-again : Request → List Record
+issued-again q =
+    let one : Step = record { number = 1; participant = 1; request = q } in
+    record-of 5 Begin ∷ record-of 5 Mark ∷ record-of 5 (Intent one) ∷ record-of 5 (Done 1) ∷ record-of 5 (Back 1) ∷ record-of 5 (Undone 1) ∷ record-of 5 (Intent one) ∷ []
+
 pub record Readings (V : Type 0) : Type 0 where
   -- a list of lawful records keeps this
   pub keeps : (n : ℕ) (v : V) (rs : List Record) (t : Sagas V) → reading n v rs ≡ Ok t → Keeps t
@@ -62,3 +69,5 @@ pub record Readings (V : Type 0) : Type 0 where
   pub first : (n : ℕ) (v : V) (rs more : List Record) (i : ℕ) → reading n v rs ≡ Err i → reading n v (rs ++ more) ≡ Err i
   -- an undo of a step that was never issued
   pub undone-first : (n : ℕ) (v : V) → reading n v (record-of 5 Begin ∷ record-of 5 (Undone 1) ∷ []) ≡ Err 1
+  -- a step number used again
+  pub step-again : (v : V) (q : Request) → reading 3 v (issued-again q) ≡ Err 6

@@ -25,43 +25,13 @@ pub fn read<V: Copy>(records: &[Record], participants: u8, note: V) -> Result<Ta
 #[cfg(test)]
 mod tests {
     use super::*;
-    use crate::event::Step;
     use std::test::*;
-    use terms::Request;
-
-    const CLAIM_ONE: Event = Event::Intent(Step {
-        number: 1,
-        participant: 1,
-        request: Request {
-            verb: 1,
-            amount: 1,
-            a: 1,
-            b: 0,
-        },
-    });
 
     #[test]
     fn an_undo_before_any_step_is_unlawful() -> Result<(), Fail> {
         let records = [Event::Begin.to_record(5), Event::Undone(1).to_record(5)];
         match read(&records, 3, ()) {
             Err(index) => check_eq(index, 1),
-            Ok(_) => Err(Fail::new("read as lawful")),
-        }
-    }
-
-    #[test]
-    fn a_step_number_is_not_used_again() -> Result<(), Fail> {
-        let records = [
-            Event::Begin.to_record(5),
-            Event::Mark.to_record(5),
-            CLAIM_ONE.to_record(5),
-            Event::Done(1).to_record(5),
-            Event::Back(1).to_record(5),
-            Event::Undone(1).to_record(5),
-            CLAIM_ONE.to_record(5),
-        ];
-        match read(&records, 3, ()) {
-            Err(index) => check_eq(index, 6),
             Ok(_) => Err(Fail::new("read as lawful")),
         }
     }
