@@ -176,7 +176,7 @@ mirrors-parties : (w : World) (ps : List Party) → length ps ≡ length (w .par
 mirrors-parties w ps e m ready = ap (λ k. reading (min 255 k) tt (w .records)) e ∙ m ready
 
 -- the record of the call is lawful, and not Begin
-told-lawful : (n : ℕ) (x : Saga) (a : Aim) (t : Step) (y : Outcome) → x .phase ≡ Pending a t → lawful n x (event-for a t y) ≡ true
+pub told-lawful : (n : ℕ) (x : Saga) (a : Aim) (t : Step) (y : Outcome) → x .phase ≡ Pending a t → lawful n x (event-for a t y) ≡ true
 told-lawful n x Stepping t Went-well e = ap (λ p. if-stepping p (λ u. eqb (t .number) (u .number))) e ∙ eq-eqb (t .number) (t .number) refl
 told-lawful n x Stepping t (Went-not c) e = ap (λ p. if-stepping p (λ u. eqb (t .number) (u .number))) e ∙ eq-eqb (t .number) (t .number) refl
 told-lawful n x (Retreating g d) t y e = ap (λ p. if-retreating p (λ u. eqb (t .number) (u .number))) e ∙ eq-eqb (t .number) (t .number) refl

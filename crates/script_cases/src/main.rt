@@ -4,12 +4,12 @@ ghost use Prim.Native.Nat.{_≤_};
 ghost use lib.ListN.{length};
 ghost use Rattle.std.specs.Of.Vec.{vec-len};
 ghost use Rattle.std.specs.Vec.{made};
-use terms::Level;
 use grammar::Item;
 use grammar::Script;
 use std::alloc::AllocError;
 use std::alloc::Global;
 use std::io;
+use terms::Level;
 use tokens::text::Fault;
 
 const BLANKS: [u8; 256] = [b' '; 256];

@@ -76,12 +76,7 @@ pub fn print_journal<J: JournalRead>(rt: &LibcRuntime, journal: &J) -> io::Resul
     Ok(())
 }
 
-fn print_value<B: Bank>(
-    rt: &LibcRuntime,
-    bank: &B,
-    participant: u8,
-    cell: u64,
-) -> io::Result<()> {
+fn print_value<B: Bank>(rt: &LibcRuntime, bank: &B, participant: u8, cell: u64) -> io::Result<()> {
     match bank.value(participant, cell) {
         Some(value) => println!(rt, " {value}"),
         None => println!(rt, ""),

@@ -6,6 +6,7 @@ mod saga;
 use crate::lines::print_cells;
 use crate::lines::print_journal;
 use crate::saga::take;
+use grammar::Script;
 use journals::slots::SlotJournal;
 use journals::slots::methods::SlotWrite;
 use journals::traits::Journal;
@@ -15,7 +16,6 @@ use site::bank::open;
 use std::error::AnyError;
 use std::io::Read;
 use tokens::text::Fault;
-use grammar::Script;
 
 const SLOTS: usize = 1024;
 

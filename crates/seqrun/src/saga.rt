@@ -86,13 +86,7 @@ fn back<J: Journal, B: Bank>(journal: &mut J, bank: &mut B, saga: &Saga, done: u
     let _ = note(journal, number, Event::Back(0));
     for i in 0..done {
         let step = done - i;
-        bank.undo(
-            participant_at(saga, step),
-            Key {
-                saga: number,
-                step,
-            },
-        );
+        bank.undo(participant_at(saga, step), Key { saga: number, step });
         let _ = note(journal, number, Event::Undone(step));
     }
 }
@@ -103,13 +97,7 @@ fn finish<J: Journal, B: Bank>(journal: &mut J, bank: &mut B, saga: &Saga, done:
     let _ = note(journal, number, Event::Finish);
     for i in 0..done {
         let step = i + 1;
-        bank.settle(
-            participant_at(saga, step),
-            Key {
-                saga: number,
-                step,
-            },
-        );
+        bank.settle(participant_at(saga, step), Key { saga: number, step });
         let _ = note(journal, number, Event::Settled(step));
     }
 }

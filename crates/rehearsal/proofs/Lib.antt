@@ -1,0 +1,17 @@
+pub mod Agrees
+pub mod Answering
+pub mod Balances
+pub mod Closes
+pub mod Costs
+pub mod Cuts
+pub mod Deeds
+pub mod Histories
+pub mod Looks
+pub mod Main
+pub mod Mirrored
+pub mod Rooms
+pub mod Shown
+pub mod Sounds
+pub mod Standings
+pub mod Turns
+pub mod Written
