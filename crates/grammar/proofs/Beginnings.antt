@@ -16,7 +16,7 @@ use Rattle.grammar.specs.Machine.{Layout, SagaItems, Place, Part, body, other,
 use Rattle.grammar.specs.Machine as machine
 use Rattle.grammar.specs.Makes.{Shaped, section-tokens, tag-section-tokens, item-tokens, items-tokens, tokens-of, Nests, AllNest}
 use Rattle.grammar.specs.Limits.{ItemsFit, SagasFit, Valid}
-use Rattle.grammar.specs.SoFar.{ahead, pairs, in-saga, told, sofar, Good}
+use Rattle.grammar.proofs.SoFar.{ahead, pairs, in-saga, told, sofar, Good}
 use Rattle.grammar.specs.Read.{Begins}
 use Rattle.terms.specs.declared.Level.{Level}
 use Rattle.terms.specs.declared.Tag.{Tag}

@@ -18,8 +18,8 @@ use Rattle.tokens.specs.declared.text.Word.the-variants as word
 use Rattle.tokens.specs.declared.text.Cause.{Cause}
 use Rattle.grammar.specs.Machine.{Layout, SagaItems, State, Place, Part, body, other, at, into, opened, did, turned, request, stock, shift, hung, aHead, aStep, left, listed, oldName, newName, otherFeeder, step, begun, more, moreTags, most, filled, tagged, after, run, start, empty}
 use Rattle.grammar.specs.Machine as machine
-use Rattle.grammar.specs.Makes.{request-tokens, item-tokens, items-tokens, sagas-tokens, cells-tokens, tags-tokens, section-tokens, tag-section-tokens, tokens-of, without-places}
-use Rattle.grammar.specs.Limits.{RequestFits, ItemsFit, SagasFit, CellsFit, TagsFit, Valid, Plain, Made-is-accepted}
+use Rattle.grammar.specs.Makes.{request-tokens, item-tokens, items-tokens, sagas-tokens, cells-tokens, tags-tokens, section-tokens, tag-section-tokens, tokens-of, shown, without-places}
+use Rattle.grammar.specs.Limits.{RequestFits, ItemsFit, SagasFit, CellsFit, TagsFit, Valid}
 use Rattle.terms.specs.declared.Tag.{Tag}
 use Rattle.grammar.specs.declared.Section.the-variants.{Groups, Feeders}
 use Rattle.terms.specs.declared.Level.{Level}
@@ -166,6 +166,11 @@ script-accepted l d v =
     ∙ tag-section-accepted (filled Feeders (l .feeders) (filled Groups (l .groups) empty)) (l .tags) (sagas-tokens d) (v .few-tags) (v .tags)
     ∙ sagas-accepted l [] d (v .sagas)
 
+-- tokens of a text, among which there is no End
+abbrev pub Plain : List (Token × ℕ) → Type 0
+Plain [] = Unit {0}
+Plain (t ∷ ts) = (shown (t .0) ≡ t .0 ∷ []) × Plain ts
+
 not-ok : {g : Cause} {x : State} → _≡_ {A = Result State Cause} (Err g) (Ok x) → ⊥
 not-ok e = grind arith
 
@@ -180,6 +185,6 @@ with-places end (t ∷ ts) s u p h =
     let r = then-ok (step s (t .0)) (λ v. accept v (without-places ts)) u e in
     rw (r .1) (with-places end ts (r .0) u (p .1) (r .2))
 
-pub made-is-accepted : Made-is-accepted
+pub made-is-accepted : (end : ℕ) (ts : List (Token × ℕ)) (l : Layout) (d : List SagaItems) → Plain ts → Valid l d → without-places ts ≡ tokens-of l d → run end start ts ≡ Ok (at l d machine.sagas)
 made-is-accepted end ts l d p v h =
     with-places end ts start (at l d machine.sagas) p (ap (λ (xs : List Token). accept start xs) h ∙ script-accepted l d v)

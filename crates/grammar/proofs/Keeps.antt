@@ -21,7 +21,7 @@ use Rattle.grammar.specs.Machine.{Layout, SagaItems, State, Place, Part, body,
 use Rattle.grammar.specs.Machine as machine
 use Rattle.grammar.specs.Makes.{Shaped, Nests, AllNest}
 use Rattle.grammar.specs.Limits.{RequestFits, StockFits, MoveFits, TagFits, ItemsFit, SagasFit, CellsFit, TagsFit, Valid}
-use Rattle.grammar.specs.SoFar.{Good}
+use Rattle.grammar.proofs.SoFar.{Good}
 use Rattle.terms.specs.declared.Level.{Level}
 use Rattle.terms.specs.declared.Tag.{Tag}
 use Rattle.grammar.specs.declared.Section.{Section}

@@ -1,3 +1,4 @@
+pub mod SoFar
 pub mod Sound
 pub mod Grows
 pub mod Complete

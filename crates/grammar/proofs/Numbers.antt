@@ -20,7 +20,7 @@ use Rattle.tokens.specs.declared.text.Cause.the-variants as cause
 use Rattle.grammar.specs.Machine.{Layout, SagaItems, State, Place, into, headWord, aStep, aHead, aStart, newName, oldName, unlessListed, ifListed, unlessSame, otherFeeder, listed, left, most, title, move}
 use Rattle.grammar.specs.Machine as machine
 use Rattle.grammar.specs.Read.{Begins, Lacking, Number-fits}
-use Rattle.grammar.specs.SoFar.{told, Good}
+use Rattle.grammar.proofs.SoFar.{told, Good}
 use Rattle.grammar.proofs.Keeps.{Keeps}
 use Rattle.grammar.proofs.Grows.{verbWord}
 use Rattle.grammar.proofs.Beginnings.{from, begins, nested, past-count, past-ceiling, past-tag-count, past-tag-value, past-saga-number, past-verb, past-try, past-group, past-target, past-tag, in-of, in-from, in-to}

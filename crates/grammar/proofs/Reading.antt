@@ -25,14 +25,14 @@ use Rattle.tokens.proofs.Lexing.{isEnd, lead-not-end}
 use Rattle.grammar.specs.Machine.{Layout, SagaItems, State, Answer, at, step, run, start}
 use Rattle.grammar.specs.Machine as machine
 use Rattle.grammar.specs.Makes.{shown, without-places, tokens-of}
-use Rattle.grammar.specs.Limits.{Plain, Valid}
-use Rattle.grammar.specs.SoFar.{sofar}
+use Rattle.grammar.specs.Limits.{Valid}
+use Rattle.grammar.proofs.SoFar.{sofar}
 use Rattle.grammar.specs.Judged.{judge, outcome, tooLong, finished, Meets}
 use Rattle.grammar.specs.Read.{Is-script, judged, Begins, Comes-after, Not-allowed, Lacking, Number-fits, Faulty-token, Too-long, First-fault, Reading}
 use Rattle.grammar.specs.Lists.{lists-of, sagas-of}
 use Rattle.grammar.specs.declared.Script.{Script}
 use Rattle.grammar.proofs.Grows.{accepted-is-made}
-use Rattle.grammar.proofs.Complete.{accept, then, script-accepted, made-is-accepted}
+use Rattle.grammar.proofs.Complete.{Plain, accept, then, script-accepted, made-is-accepted}
 use Rattle.grammar.proofs.Stops.{Stop, stops, ended}
 use Rattle.grammar.proofs.Beginnings.{begins}
 use Rattle.grammar.proofs.Numbers.{number-fits}

@@ -15,11 +15,10 @@ use Rattle.tokens.specs.declared.text.Fault.the-variants.{At}
 use Rattle.grammar.specs.Machine.{State, Answer, step, run, atEnd, onward}
 use Rattle.grammar.specs.Machine as machine
 use Rattle.grammar.specs.Makes.{shown, without-places}
-use Rattle.grammar.specs.Limits.{Plain}
-use Rattle.grammar.specs.SoFar.{sofar, Good}
+use Rattle.grammar.proofs.SoFar.{sofar, Good}
 use Rattle.grammar.proofs.Grows.{append-nil, grows, at-end, on-ok, last}
 use Rattle.grammar.proofs.Keeps.{Kept, keeps}
-use Rattle.grammar.proofs.Complete.{accept, then}
+use Rattle.grammar.proofs.Complete.{Plain, accept, then}
 use Rattle.grammar.proofs.Loose.{loosely, allow, loosened}
 
 pub record Stop (end : ℕ) (s : State) (ts : List (Token × ℕ)) (c : Cause) (p : ℕ) : Type 0 where

@@ -5,11 +5,7 @@ use mathlib.Core.Bool.{Bool, true, false}
 use mathlib.Core.Logic.{_⊎_}
 use mathlib.Core.List.{List, [], _∷_, _++_}
 use lib.ListN.{length}
-use Rattle.std.specs.declared.result.Result.the-variants.{Ok}
-use Rattle.tokens.specs.declared.text.Token.{Token}
-use Rattle.grammar.specs.Machine.{Layout, SagaItems, Part, body, other, listed, at, run, start}
-use Rattle.grammar.specs.Machine as machine
-use Rattle.grammar.specs.Makes.{tokens-of, shown, without-places}
+use Rattle.grammar.specs.Machine.{Layout, SagaItems, Part, body, other, listed}
 use Rattle.terms.specs.declared.Level.{Level}
 use Rattle.terms.specs.declared.Tag.{Tag}
 use Rattle.terms.specs.declared.Request.{Request}
@@ -80,12 +76,3 @@ pub record Valid (l : Layout) (d : List SagaItems) : Type 0 where
   pub feeders : CellsFit (l .feeders)
   pub tags : TagsFit [] (l .tags)
   pub sagas : SagasFit l d
-
--- tokens of a text, among which there is no End
-abbrev pub Plain : List (Token × ℕ) → Type 0
-Plain [] = Unit {0}
-Plain (t ∷ ts) = (shown (t .0) ≡ t .0 ∷ []) × Plain ts
-
--- what the grammar makes of a valid site and sagas is accepted, and read back as they are
-abbrev pub Made-is-accepted : Type 0
-Made-is-accepted = (end : ℕ) (ts : List (Token × ℕ)) (l : Layout) (d : List SagaItems) → Plain ts → Valid l d → without-places ts ≡ tokens-of l d → run end start ts ≡ Ok (at l d machine.sagas)

@@ -6,12 +6,11 @@ use mathlib.Core.Logic.{_⊎_}
 use mathlib.Core.List.{List, [], _∷_, _++_}
 use lib.Dec.{eqb}
 use lib.ListN.{length}
-use Rattle.std.specs.declared.result.Result.the-variants.{Ok}
 use Rattle.tokens.specs.declared.text.Token.{Token}
 use Rattle.tokens.specs.declared.text.Token.the-variants.{Word, Name, Number, Open, Close, Bad, End}
 use Rattle.tokens.specs.declared.text.Word.{Word as Words}
 use Rattle.tokens.specs.declared.text.Word.the-variants as word
-use Rattle.grammar.specs.Machine.{Layout, SagaItems, State, Part, body, other, title, run, start}
+use Rattle.grammar.specs.Machine.{Layout, SagaItems, Part, body, other, title}
 use Rattle.terms.specs.declared.Level.{Level}
 use Rattle.terms.specs.declared.Tag.{Tag}
 use Rattle.grammar.specs.declared.Section.{Section}
@@ -115,7 +114,3 @@ shown End = []
 abbrev pub without-places : List (Token × ℕ) → List Token
 without-places [] = []
 without-places (t ∷ ts) = shown (t .0) ++ without-places ts
-
--- what is accepted is what the grammar makes of the answer
-abbrev pub Accepted-is-made : Type 0
-Accepted-is-made = (end : ℕ) (ts : List (Token × ℕ)) (u : State) → run end start ts ≡ Ok u → without-places ts ≡ tokens-of (u .layout) (u .sagas)

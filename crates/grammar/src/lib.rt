@@ -29,12 +29,14 @@ pub enum Item {
     End,
 }
 
+/// A saga: its number and its items.
 #[derive(Drop)]
 pub struct Saga {
     pub number: u32,
     pub items: Vec<Item>,
 }
 
+/// A whole script: what the participants start with, and the sagas to run in order.
 #[derive(Drop)]
 pub struct Script {
     pub site: Site,
