@@ -21,7 +21,7 @@ use terms::RETURN;
 use terms::Refusal;
 use terms::Request;
 
-pub fn take_of(q: &Request, cell: u64) -> u32
+pub(crate) fn take_of(q: &Request, cell: u64) -> u32
     ensures { λ r. ⌜ r ≡ takes cell (now (q .entry)) ⌝ }
 {
     match q.verb {
@@ -32,7 +32,7 @@ pub fn take_of(q: &Request, cell: u64) -> u32
     }
 }
 
-pub fn give_of(q: &Request, cell: u64) -> u32
+pub(crate) fn give_of(q: &Request, cell: u64) -> u32
     ensures { λ r. ⌜ r ≡ gives cell (now (q .entry)) ⌝ }
 {
     match q.verb {
@@ -42,7 +42,7 @@ pub fn give_of(q: &Request, cell: u64) -> u32
     }
 }
 
-pub fn effect_of(side: Side, q: &Request, cell: u64) -> u32
+pub(crate) fn effect_of(side: Side, q: &Request, cell: u64) -> u32
     ensures { λ r. ⌜ r ≡ effect side cell (now (q .entry)) ⌝ }
 {
     match side {
@@ -58,7 +58,7 @@ fn is_key(e: &Entry, key: Key) -> bool
 }
 
 // Where the key stands.
-pub fn find(entries: &[Entry], key: Key) -> Option<usize>
+pub(crate) fn find(entries: &[Entry], key: Key) -> Option<usize>
     ensures { λ r. ⌜ r ≡ place (is-key key) (now (entries .entry)) ⌝ }
 {
     for (i, e) in entries.iter().enumerate() {
@@ -69,7 +69,7 @@ pub fn find(entries: &[Entry], key: Key) -> Option<usize>
     None
 }
 
-pub fn value_of(cells: &[Cell], number: u64) -> Option<u32>
+pub(crate) fn value_of(cells: &[Cell], number: u64) -> Option<u32>
     ensures { λ r. ⌜ r ≡ value-in number (now (cells .entry)) ⌝ }
 {
     for cell in cells {
@@ -80,7 +80,7 @@ pub fn value_of(cells: &[Cell], number: u64) -> Option<u32>
     None
 }
 
-pub fn has_cell(cells: &[Cell], number: u64) -> bool
+pub(crate) fn has_cell(cells: &[Cell], number: u64) -> bool
     ensures { λ r. ⌜ r ≡ has-cell number (now (cells .entry)) ⌝ }
 {
     for cell in cells {
@@ -201,7 +201,7 @@ fn judge_new(verbs: &[u8], cells: &[Cell], entries: &[Entry], q: &Request) -> An
     }
 }
 
-pub fn judge(verbs: &[u8], cells: &[Cell], entries: &[Entry], entry: &Entry) -> Answer
+pub(crate) fn judge(verbs: &[u8], cells: &[Cell], entries: &[Entry], entry: &Entry) -> Answer
     requires { ⌜ length (now entries) ≤ 64 ⌝ }
     ensures { λ r. ⌜ r ≡ do-answer (record { verbs = now (verbs .entry); cells = now (cells .entry); entries = now (entries .entry) }) (now (entry .entry)) ⌝ }
 {

@@ -19,7 +19,7 @@ fn is_in_range(cell: &Cell) -> bool
     cell.value <= cell.ceiling && cell.ceiling <= CEILING
 }
 
-pub fn all_in_range(cells: &[Cell]) -> bool
+pub(crate) fn all_in_range(cells: &[Cell]) -> bool
     ensures { λ r. ⌜ r ≡ every in-range (now (cells .entry)) ⌝ }
 {
     for cell in cells {
@@ -38,7 +38,7 @@ fn is_again(cells: &[Cell], place: usize) -> bool
     has_cell(&cells[place + 1..], cells[place].number)
 }
 
-pub fn numbered_once(cells: &[Cell]) -> bool
+pub(crate) fn numbered_once(cells: &[Cell]) -> bool
     ensures { λ r. ⌜ r ≡ numbers-once (now (cells .entry)) ⌝ }
 {
     for place in 0..cells.len() {

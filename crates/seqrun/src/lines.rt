@@ -67,7 +67,7 @@ fn print_event(rt: &LibcRuntime, saga: u32, event: Event) -> io::Result<()> {
 }
 
 /// A line for each record.
-pub fn print_journal<J: JournalRead>(rt: &LibcRuntime, journal: &J) -> io::Result<()> {
+pub(crate) fn print_journal<J: JournalRead>(rt: &LibcRuntime, journal: &J) -> io::Result<()> {
     for i in 0..journal.count() {
         if let Some(record) = journal.entry(i) {
             print_event(rt, record.saga, Event::of(&record))?;
@@ -84,7 +84,7 @@ fn print_value<B: Bank>(rt: &LibcRuntime, bank: &B, participant: u8, cell: u64) 
 }
 
 /// A line for each cell: groups, feeders and tags, as the site lists them.
-pub fn print_cells<B: Bank>(rt: &LibcRuntime, bank: &B, site: &Site) -> io::Result<()> {
+pub(crate) fn print_cells<B: Bank>(rt: &LibcRuntime, bank: &B, site: &Site) -> io::Result<()> {
     for group in 1..site.groups.len().saturating_add(1) {
         print!(rt, "group {group}")?;
         print_value(rt, bank, 1, group as u64)?;

@@ -112,7 +112,7 @@ fn has_try(saga: &Saga) -> bool {
 }
 
 /// Takes a saga from its begin to its end, forward or back. One with a try is left out.
-pub fn take<J: Journal, B: Bank>(journal: &mut J, bank: &mut B, saga: &Saga) {
+pub(crate) fn take<J: Journal, B: Bank>(journal: &mut J, bank: &mut B, saga: &Saga) {
     if has_try(saga) {
         return;
     }

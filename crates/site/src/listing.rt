@@ -50,7 +50,7 @@ pub impl Listed for Tag as TagListed {
 }
 
 /// The cells of a list, unless they are more than `C`.
-pub fn cells_of<L: Listed, const C: usize>(list: &[L]) -> Result<Bounded<Cell, C>, SiteFault>
+pub(crate) fn cells_of<L: Listed, const C: usize>(list: &[L]) -> Result<Bounded<Cell, C>, SiteFault>
     ensures { λ r. ⌜ listed-as r ≡ listed C (L·Listed .cell) (now (list .entry)) ⌝ }
 {
     let mut cells = Bounded::new(NO_CELL);
