@@ -16,6 +16,8 @@ use site::bank::open;
 use std::error::AnyError;
 use std::io::Read;
 use tokens::text::Fault;
+use bank::chain::WithBank;
+use journals::slots::methods::SlotRead;
 
 const SLOTS: usize = 1024;
 
