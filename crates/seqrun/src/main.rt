@@ -6,8 +6,10 @@ mod saga;
 use crate::lines::print_cells;
 use crate::lines::print_journal;
 use crate::saga::take;
+use bank::chain::WithBank;
 use grammar::Script;
 use journals::slots::SlotJournal;
+use journals::slots::methods::SlotRead;
 use journals::slots::methods::SlotWrite;
 use journals::traits::Journal;
 use record::SLOT;
@@ -16,8 +18,6 @@ use site::bank::open;
 use std::error::AnyError;
 use std::io::Read;
 use tokens::text::Fault;
-use bank::chain::WithBank;
-use journals::slots::methods::SlotRead;
 
 const SLOTS: usize = 1024;
 
