@@ -1,5 +1,5 @@
 -- The list that a Bounded stands for.
-use Rattle.std.specs.Prelude.{ℕ, ◌+◌, ◌-◌, Bool, true, false, cond, List, [], ◌∷◌, ◌++◌, length, take, nat_lt}
+use Rattle.std.specs.Prelude.{ℕ, ◌-◌, cond, List, [], ◌∷◌, ◌++◌, length, take, nat_lt}
 use Rattle.bounded.specs.declared.Bounded.{Bounded}
 
 abbrev pub held : {T : Type 0} {n : ℕ} → Bounded T n → List T

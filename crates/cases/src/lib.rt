@@ -1,2 +1,4 @@
 //! Worked examples, run on the code.
+#![tactic(auto)]
+
 pub mod bank;

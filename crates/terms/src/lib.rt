@@ -1,4 +1,6 @@
 //! What every layer speaks of: a step's key and request, and why a participant refuses a step.
+#![tactic(auto)]
+
 ghost use Rattle.std.specs.Prelude.{◌≡◌};
 ghost use Rattle.terms.specs.Codes.{refusal_code, refusal_of, CodesNameRefusals};
 

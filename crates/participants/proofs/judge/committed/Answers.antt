@@ -13,7 +13,7 @@ loop-e-preserved c =
     let t = sum_by_more (λ (e : Entry). takes c.args.cell e.request) es c.loop-e.e-index no_entry h in
     let g = sum_by_more (λ (e : Entry). gives c.args.cell e.request) es c.loop-e.e-index no_entry h in
     let i = c.loop-e.invariant in
-    (omega (arith, c.take-of.ensures, c.give-of.ensures), omega arith)
+    (omega (arith, c.take_of.ensures, c.give_of.ensures), omega arith)
 
 pub returns : goal.returns
 returns c =

@@ -5,8 +5,8 @@ use Rattle.law.specs.declared.event.Aim.TheVariants.{Stepping}
 use Rattle.law.proofs.Pushes.{stands_next}
 use Rattle.law.proofs.row.Row.apply.Goals as goal
 
-pub invariant-of-self-then-number-step : goal.invariant-of-self-then-number-step
-invariant-of-self-then-number-step c =
+pub invariant_of-self-then-number-step : goal.invariant_of-self-then-number-step
+invariant_of-self-then-number-step c =
     let s = c.args.self.now in
     let p : s.phase ≡ Pending Stepping c.in-Pending-Stepping-default-Done.step = search rules in
     (s.few, (stands_next s.phase c.in-Pending-Stepping-default-Done.step (held s.standing) (held c.push-in-Pending-Stepping-default-Done.new.self) s.last p c.push-in-Pending-Stepping-default-Done.ensures.after s.room, tt))

@@ -7,10 +7,10 @@ use Rattle.law.specs.Tables.{open_of}
 use Rattle.law.specs.Views.{view_of}
 use Rattle.law.proofs.table.Table.find.Goals as goal
 
-pub returns-in-default : goal.returns-in-default
-returns-in-default g c =
+pub returns-in_default : goal.returns-in_default
+returns-in_default g c =
     let q = of_saga c.args.saga in
-    sym (ap (option_map view_of) (first_not q open_of (held c.args.self.now.rows) c.in-default.ensures))
+    sym (ap (option_map view_of) (first_not q open_of (held c.args.self.now.rows) c.in_default.ensures))
 
 pub returns-in-Some-get : goal.returns-in-Some-get
 returns-in-Some-get g c =

@@ -7,27 +7,27 @@ use Rattle.law.specs.Tables.{open_of}
 use Rattle.law.proofs.Tabled.{move_none, move_not, move_stays, move_leaves}
 use Rattle.law.proofs.table.Table.move_open.Goals as goal
 
-pub returns-in-default : goal.returns-in-default
-returns-in-default g c =
+pub returns-in_default : goal.returns-in_default
+returns-in_default g c =
     let s = c.args.self.now in
-    move_none open_of c.args.participants s.top c.args.saga c.args.event (held s.rows) c.in-default.ensures
+    move_none open_of c.args.participants s.top c.args.saga c.args.event (held s.rows) c.in_default.ensures
 
-pub returns-in-default-get : goal.returns-in-default-get
-returns-in-default-get g c = absurd (place_held (of_saga c.args.saga) open_of (held c.args.self.now.rows) c.in-Some.place c.in-Some.ensures c.in-default-get.ensures)
+pub returns-in_default-get : goal.returns-in_default-get
+returns-in_default-get g c = absurd (place_held (of_saga c.args.saga) open_of (held c.args.self.now.rows) c.in-Some.place c.in-Some.ensures c.in_default-get.ensures)
 
 pub returns-then-not-apply : goal.returns-then-not-apply
 returns-then-not-apply g c =
     let s = c.args.self.now in
     move_not open_of c.args.participants s.top c.args.saga c.args.event (held s.rows) c.in-Some.place c.in-Some-get.open c.in-Some.ensures c.in-Some-get.ensures (saga_of c.apply.new.self) c.if-not-apply.ensures
 
-pub returns-then-is-open : goal.returns-then-is-open
-returns-then-is-open g c =
+pub returns-then-is_open : goal.returns-then-is_open
+returns-then-is_open g c =
     let s = c.args.self.now in
     move_stays open_of c.args.participants s.top c.args.saga c.args.event (held s.rows) c.in-Some.place c.in-Some-get.open c.in-Some.ensures c.in-Some-get.ensures (saga_of c.apply.new.self) c.if-not-apply.ensures
-    (held c.set.new.self) (record { row = c.apply.new.self; note = c.in-Some-get.open.note }) (sym c.if-is-open.ensures) refl c.set.ensures.after
+    (held c.set.new.self) (record { row = c.apply.new.self; note = c.in-Some-get.open.note }) (sym c.if-is_open.ensures) refl c.set.ensures.after
 
-pub returns-else-is-open : goal.returns-else-is-open
-returns-else-is-open g c =
+pub returns-else-is_open : goal.returns-else-is_open
+returns-else-is_open g c =
     let s = c.args.self.now in
     move_leaves open_of c.args.participants s.top c.args.saga c.args.event (held s.rows) c.in-Some.place c.in-Some-get.open c.in-Some.ensures c.in-Some-get.ensures (saga_of c.apply.new.self) c.if-not-apply.ensures
-    (held c.remove.new.self) (sym c.if-is-open.ensures) c.remove.ensures.after
+    (held c.remove.new.self) (sym c.if-is_open.ensures) c.remove.ensures.after

@@ -8,8 +8,8 @@ use Rattle.participants.specs.Opening.{in_range}
 use Rattle.participants.proofs.Opened.{opened_sound}
 use Rattle.participants.proofs.book.Book.open.Goals as goal
 
-pub invariant-of-result : goal.invariant-of-result
-invariant-of-result g c =
+pub invariant_of-result : goal.invariant_of-result
+invariant_of-result g c =
     let cells = held c.args.cells in
-    let range : every in_range cells ≡ true = sym (c.all-in-range.ensures ∙ ap (λ (xs : List Cell). every in_range xs) c.as-slice.ensures) ∙ c.if-not-all-in-range.false in
+    let range : every in_range cells ≡ true = sym (c.all_in_range.ensures ∙ ap (λ (xs : List Cell). every in_range xs) c.as_slice.ensures) ∙ c.if-not-all_in_range.false in
     (ap keys_once c.new.ensures, (ap (λ (es : List Entry). within_ceilings cells es) c.new.ensures ∙ opened_sound cells range, tt))

@@ -7,16 +7,16 @@ use Rattle.participants.proofs.Kept.{performed, performed_once, performed_sound}
 use Rattle.bounded.specs.Held.{held}
 use Rattle.participants.proofs.book.Book.perform.Goals as goal
 
-pub invariant-of-self : goal.invariant-of-self
-invariant-of-self g c =
+pub invariant_of-self : goal.invariant_of-self
+invariant_of-self g c =
     let s = c.args.self.now in
-    let yes : Done ≡ do_answer (book_party s) c.args.entry = c.in-Done.ensures ∙ ap (λ (q : Party). do_answer q c.args.entry) (same_party _ _ _ _ _ _ c.as-slice.ensures c.as-slice-2.ensures c.as-slice-3.ensures) in
+    let yes : Done ≡ do_answer (book_party s) c.args.entry = c.in-Done.ensures ∙ ap (λ (q : Party). do_answer q c.args.entry) (same_party _ _ _ _ _ _ c.as_slice.ensures c.as_slice-2.ensures c.as_slice-3.ensures) in
     (performed_once (book_party s) c.args.entry (held c.lower.new.cells) _ yes c.lower.ensures c.join.ensures s.once, (performed_sound (book_party s) c.args.entry _ _ yes c.lower.ensures c.join.ensures s.sound, tt))
 
 pub returns-in-Done : goal.returns-in-Done
 returns-in-Done g c =
     let s = c.args.self.now in
-    let same = same_party _ _ _ _ _ _ c.as-slice.ensures c.as-slice-2.ensures c.as-slice-3.ensures in
+    let same = same_party _ _ _ _ _ _ c.as_slice.ensures c.as_slice-2.ensures c.as_slice-3.ensures in
     let yes : Done ≡ do_answer (book_party s) c.args.entry = c.in-Done.ensures ∙ ap (λ (q : Party). do_answer q c.args.entry) same in
     record {
       answer = c.judge-answer.ensures ∙ ap (λ (q : Party). do_answer q c.args.entry) same;

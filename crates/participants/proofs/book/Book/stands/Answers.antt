@@ -9,4 +9,4 @@ use Rattle.participants.proofs.book.Book.stands.Goals as goal
 pub returns : goal.returns
 returns g c =
     let k = c.args.key in
-    c.is-some.ensures ∙ ap is_some c.find.ensures ∙ ap (λ (es : List Entry). is_some (place (is_key k) es)) c.as-slice.ensures ∙ some_stands k (held c.args.self.now.entries)
+    c.is_some.ensures ∙ ap is_some c.find.ensures ∙ ap (λ (es : List Entry). is_some (place (is_key k) es)) c.as_slice.ensures ∙ some_stands k (held c.args.self.now.entries)

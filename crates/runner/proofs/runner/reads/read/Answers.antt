@@ -9,7 +9,7 @@ use Rattle.law.proofs.Readings.{left_at, read_more, read_stop, read_end}
 use Rattle.runner.specs.declared.memory.Memory.{Memory}
 use Rattle.runner.specs.declared.memory.Memory.TheVariants.{Blank}
 use Rattle.runner.proofs.runner.reads.read.Goals as goal
-use Rattle.runner.proofs.runner.reads.read.Goals.{in-Some+else-not-apply, in-default}
+use Rattle.runner.proofs.runner.reads.read.Goals.{in-Some+else-not-apply, in_default}
 
 pub returns-then-not-apply : goal.returns-then-not-apply
 returns-then-not-apply g c =
@@ -28,7 +28,7 @@ loop-i-preserved g c =
       | in-Some+else-not-apply w ↦
           c.loop-i.invariant ∙ read_more c.args.participants Blank rs i (sagas_of c.loop-i.table) w.in-Some.r (left_at rs i w.in-Some.r h w.in-Some.ensures) w.of.result w.of.ensures (sagas_of w.apply.new.self) w.if-not-apply.ensures
           ∙ ap (λ (t : Table Memory). read_from c.args.participants Blank (i + 1) (sagas_of t) (drop (i + 1) rs)) (sym w.table-is)
-      | in-default w ↦ absurd (w.in-default.not-Some _ (c.entry.ensures ∙ slice_get-get_or rs i (record_of 0 Begin) h))
+      | in_default w ↦ absurd (w.in_default.not-Some _ (c.entry.ensures ∙ slice_get-get_or rs i (record_of 0 Begin) h))
     ]
 
 pub returns : goal.returns
