@@ -5,19 +5,19 @@ use Rattle.journals.proofs.Counted.{marked_le}
 use Rattle.journals.proofs.Appends.{left_room, left_others, left_records, left_more, left_as_many, survives}
 use Rattle.journals.proofs.slots.methods.SlotJournalJournal.append.Goals as goal
 
-pub invariant-of-self : goal.invariant-of-self
-invariant-of-self c =
+pub invariant_of-self : goal.invariant_of-self
+invariant_of-self c =
     let j = c.args.self.now in
-    let w = c.in-err-append-uncut.ensures in
-    (omega (arith, j.counted, left_as_many j.bytes.now c.append-uncut.new.bytes.now c.args.r w.bytes _ w.answer), tt)
+    let w = c.in_err-append_uncut.ensures in
+    record { counted = omega (arith, j.counted, left_as_many j.bytes.now c.append_uncut.new.bytes.now c.args.r w.bytes _ w.answer) }
 
-pub returns-in-err-append-uncut : goal.returns-in-err-append-uncut
-returns-in-err-append-uncut c =
+pub returns-in_err-append_uncut : goal.returns-in_err-append_uncut
+returns-in_err-append_uncut c =
     let s = c.args.self.now.bytes.now in
-    let t = c.append-uncut.new.bytes.now in
+    let t = c.append_uncut.new.bytes.now in
     let r = c.args.r in
-    let w = c.in-err-append-uncut.ensures in
-    let p = err_from_is_err_and c.from-residual.result c.from-residual.ensures.1 in
+    let w = c.in_err-append_uncut.ensures in
+    let p = err_from_is_err_and c.from_residual.result c.from_residual.ensures.1 in
     record {
       answer = rw (p.1, p.2) w.answer;
       after = left_records s t r w.bytes w.fits;
@@ -29,21 +29,21 @@ returns-in-err-append-uncut c =
       cuts = survives s r w.fits;
     }
 
-pub overflow-add-self : goal.overflow-add-self
-overflow-add-self c = let j = c.args.self.now in omega (arith, j.counted, marked_le (capacity_of j.bytes.now) j.bytes.now)
+pub overflow_add-self : goal.overflow_add-self
+overflow_add-self c = let j = c.args.self.now in omega (arith, j.counted, marked_le (capacity_of j.bytes.now) j.bytes.now)
 
-pub invariant-of-self-2 : goal.invariant-of-self-2
-invariant-of-self-2 c =
+pub invariant_of-self-2 : goal.invariant_of-self-2
+invariant_of-self-2 c =
     let j = c.args.self.now in
-    let w = c.in-ok-append-uncut.ensures in
-    (omega (arith, j.counted, left_more j.bytes.now c.append-uncut.new.bytes.now c.args.r w.bytes w.fits w.answer), tt)
+    let w = c.in_ok-append_uncut.ensures in
+    record { counted = omega (arith, j.counted, left_more j.bytes.now c.append_uncut.new.bytes.now c.args.r w.bytes w.fits w.answer) }
 
 pub returns : goal.returns
 returns c =
     let s = c.args.self.now.bytes.now in
-    let t = c.append-uncut.new.bytes.now in
+    let t = c.append_uncut.new.bytes.now in
     let r = c.args.r in
-    let w = c.in-ok-append-uncut.ensures in
+    let w = c.in_ok-append_uncut.ensures in
     record {
       answer = w.answer;
       after = left_records s t r w.bytes w.fits;

@@ -3,4 +3,4 @@ use Rattle.journals.proofs.Appends.{within}
 use Rattle.journals.proofs.slots.methods.SlotJournalJournal.capacity.Goals as goal
 
 pub returns : goal.returns
-returns c = record { value = omega (arith, c.slots-in.ensures); within = within c.args.self.now.bytes.now }
+returns c = record { value = omega (arith, c.slots_in.ensures); within = within c.args.self.now.bytes.now }
