@@ -19,7 +19,7 @@ use Rattle.grammar.specs.declared.Section.TheVariants.{Groups, Feeders}
 use Rattle.grammar.specs.declared.Item.{Item}
 use Rattle.grammar.specs.declared.Item.TheVariants as item
 use Rattle.grammar.proofs.Grows.{append-nil, verb_word, two, six, count_text, open_text, in_push, saga_push, did_text, stock_text, tag_text, ceiling_text, tag_value_text, all_read, more_tags_good}
-use Rattle.grammar.proofs.Keeps.{Keeps, OpenFits, shape_of}
+use Rattle.grammar.proofs.Keeps.{Keeps, shape_of}
 
 -- the beginning of a beginning
 pub from : (xs zs ys : List Token) → zs ≡ xs ++ ys → Begins zs → Begins xs

@@ -1,10 +1,8 @@
 -- What the grammar makes of a valid site and sagas is accepted, and read back as they are.
-use Rattle.std.proofs.Common.{◌≡◌, ℕ, zero, suc, ◌+◌, ◌-◌, ◌<◌, ◌≤◌, Bool, true, false, cond, eqb, ltb, leb, ◌⊎◌, List, [], ◌∷◌, ◌++◌, length, Ok, Err, Result, sym, refl, ap, ◌∙◌, subst, inl, inr, append_assoc, arith, length-append}
-use Rattle.std.proofs.lemmas.Bool.{le-leb, lt-ltb, eq-eqb, ne_eqb}
-use Rattle.tokens.specs.Readers.{rank, a_word, a_number, a_name, an_open}
+use Rattle.std.proofs.Common.{◌≡◌, ℕ, ◌+◌, ◌-◌, ◌<◌, ◌≤◌, Bool, true, false, eqb, List, [], ◌∷◌, ◌++◌, length, Ok, Err, Result, sym, refl, ap, ◌∙◌, subst, inl, inr, append_assoc, arith}
+use Rattle.std.proofs.lemmas.Bool.{le-leb, lt-ltb, ne_eqb}
 use Rattle.tokens.specs.declared.text.Token.{Token}
 use Rattle.tokens.specs.declared.text.Token.TheVariants as token
-use Rattle.tokens.specs.declared.text.Word.{Word}
 use Rattle.tokens.specs.declared.text.Word.TheVariants as word
 use Rattle.tokens.specs.declared.text.Cause.{Cause}
 use Rattle.grammar.specs.Machine.{Layout, SagaItems, State, Place, Part, body, other, at, into, opened, did, turned, request, stock, shift, hung, a_head, a_step, left, listed, old_name, new_name, other_feeder, step, begun, more, more_tags, most, filled, tagged, after, run, start, empty}
@@ -16,10 +14,6 @@ use Rattle.grammar.specs.declared.Section.TheVariants.{Groups, Feeders}
 use Rattle.terms.specs.declared.Level.{Level}
 use Rattle.grammar.specs.declared.Section.{Section}
 use Rattle.terms.specs.declared.Request.{Request}
-use Rattle.grammar.specs.declared.Verb.{Verb}
-use Rattle.grammar.specs.declared.Verb.TheVariants as verb
-use Rattle.grammar.specs.declared.Head.{Head}
-use Rattle.grammar.specs.declared.Head.TheVariants as head
 use Rattle.grammar.specs.declared.Item.{Item}
 use Rattle.grammar.specs.declared.Item.TheVariants as item
 use Rattle.grammar.proofs.Grows.{append-nil}

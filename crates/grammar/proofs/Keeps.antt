@@ -1,6 +1,6 @@
 -- What was read keeps the limits.
-use Rattle.std.proofs.Common.{◌≡◌, ℕ, zero, suc, ◌+◌, ◌-◌, ◌<◌, ◌≤◌, Bool, true, false, cond, eqb, ltb, leb, ◌⊎◌, List, [], ◌∷◌, ◌++◌, length, Ok, Err, Result, sym, refl, ap, ◌∙◌, subst, inl, inr, append_assoc, arith, length-append}
-use Rattle.std.proofs.lemmas.Bool.{cond_both, eqb-true, eqb-false, leb-true, ltb-true, cases_lt}
+use Rattle.std.proofs.Common.{◌≡◌, ℕ, ◌+◌, ◌-◌, ◌<◌, ◌≤◌, Bool, true, false, cond, eqb, ltb, leb, List, [], ◌∷◌, ◌++◌, length, Ok, Err, Result, sym, refl, ap, ◌∙◌, subst, inl, inr, append_assoc, arith, length-append}
+use Rattle.std.proofs.lemmas.Bool.{cond_both, eqb-false, leb-true, ltb-true, cases_lt}
 use Rattle.tokens.specs.Readers.{a_word, a_number, a_name, an_open}
 use Rattle.tokens.specs.declared.text.Token.{Token}
 use Rattle.tokens.specs.declared.text.Token.TheVariants as token
@@ -10,8 +10,8 @@ use Rattle.tokens.specs.declared.text.Cause.{Cause}
 use Rattle.terms.specs.declared.Request.{Request}
 use Rattle.grammar.specs.Machine.{Layout, SagaItems, State, Place, Part, body, other, at, into, more, more_tags, filled, tagged, title, after, cell, a_tag, closed, headed, begun, turned, did, stock, shift, hung, head_word, a_step, a_head, a_start, new_name, old_name, unless_listed, if_listed, unless_same, other_feeder, listed, most, left, fresh, opened, step, move}
 use Rattle.grammar.specs.Machine as machine
-use Rattle.grammar.specs.Makes.{Shaped, Nests, AllNest}
-use Rattle.grammar.specs.Limits.{RequestFits, StockFits, MoveFits, TagFits, ItemsFit, SagasFit, CellsFit, TagsFit, Valid}
+use Rattle.grammar.specs.Makes.{Shaped, Nests}
+use Rattle.grammar.specs.Limits.{RequestFits, ItemsFit, SagasFit, CellsFit, TagsFit, Valid}
 use Rattle.grammar.proofs.SoFar.{Good}
 use Rattle.terms.specs.declared.Level.{Level}
 use Rattle.terms.specs.declared.Tag.{Tag}
@@ -24,7 +24,7 @@ use Rattle.grammar.specs.declared.Head.TheVariants as head
 use Rattle.grammar.specs.declared.Item.{Item}
 use Rattle.grammar.specs.declared.Item.TheVariants as item
 use Rattle.grammar.proofs.Sound.{not_ok, into_ok}
-use Rattle.grammar.proofs.Grows.{append-nil, one_le, unless_listed_ok, if_listed_ok, unless_same_ok}
+use Rattle.grammar.proofs.Grows.{append-nil, unless_same_ok}
 
 abbrev SectionFits : Section → List Level → Type 0
 SectionFits s cs = (length cs ≤ most s) × CellsFit cs

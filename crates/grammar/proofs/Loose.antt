@@ -1,5 +1,5 @@
 -- The grammar with its limits aside.
-use Rattle.std.proofs.Common.{◌≡◌, ℕ, ◌+◌, ◌-◌, Bool, true, false, cond, eqb, ltb, leb, ◌⊎◌, List, [], ◌∷◌, ◌++◌, length, Ok, Err, Result, sym, refl, ap, ◌∙◌, subst, inl, inr, append_assoc, arith}
+use Rattle.std.proofs.Common.{◌≡◌, ℕ, ◌+◌, ◌-◌, false, cond, eqb, ltb, leb, List, [], ◌∷◌, ◌++◌, length, Ok, Err, Result, sym, refl, ap, ◌∙◌, subst, inl, inr, append_assoc, arith}
 use Rattle.std.proofs.lemmas.Bool.{cond_both, ne_eqb}
 use Rattle.tokens.specs.Readers.{a_word, a_number, a_name, an_open}
 use Rattle.tokens.specs.declared.text.Token.{Token}
@@ -22,8 +22,8 @@ use Rattle.grammar.specs.declared.Head.{Head}
 use Rattle.grammar.specs.declared.Head.TheVariants as head
 use Rattle.grammar.specs.declared.Item.{Item}
 use Rattle.grammar.specs.declared.Item.TheVariants as item
-use Rattle.grammar.proofs.Sound.{into_ok, number_ok, name_ok}
-use Rattle.grammar.proofs.Grows.{append-nil, head_ok, head_token, verb_word, unless_listed_ok, if_listed_ok, unless_same_ok}
+use Rattle.grammar.proofs.Sound.{into_ok, number_ok}
+use Rattle.grammar.proofs.Grows.{append-nil, head_ok, head_token, unless_listed_ok, if_listed_ok, unless_same_ok}
 use Rattle.grammar.proofs.Complete.{then, rebuilt}
 
 -- a number of any size

@@ -1,7 +1,7 @@
 -- Which number a refused token is told by.
-use Rattle.std.proofs.Common.{◌≡◌, ℕ, Bool, cond, eqb, ltb, leb, ◌⊎◌, List, [], ◌∷◌, ◌++◌, length, Ok, Err, Result, sym, refl, ap, ◌∙◌, subst, inl, inr, arith}
+use Rattle.std.proofs.Common.{◌≡◌, ℕ, Bool, eqb, ltb, leb, List, [], ◌∷◌, ◌++◌, length, Ok, Err, Result, sym, refl, ap, inl, inr, arith}
 use Rattle.std.proofs.lemmas.Bool.{cond_both}
-use Rattle.tokens.specs.Readers.{rank, a_word, a_number, a_name, an_open, code_of}
+use Rattle.tokens.specs.Readers.{rank, a_word, a_number, an_open, code_of}
 use Rattle.tokens.specs.declared.text.Token.{Token}
 use Rattle.tokens.specs.declared.text.Token.TheVariants as token
 use Rattle.tokens.specs.declared.text.Word.{Word}

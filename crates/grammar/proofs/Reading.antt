@@ -1,5 +1,5 @@
 -- A text is accepted exactly if it is a script; a refusal tells its first fault.
-use Rattle.std.proofs.Common.{◌≡◌, ℕ, zero, suc, ◌+◌, ◌-◌, ◌<◌, ◌≤◌, Bool, true, false, cond, ◌⊎◌, List, [], ◌∷◌, ◌++◌, length, take, Ok, Err, vec_items, Result, sym, refl, ap, ◌∙◌, subst, inl, inr, arith, length-take}
+use Rattle.std.proofs.Common.{◌≡◌, ℕ, zero, suc, ◌+◌, ◌-◌, ◌<◌, ◌≤◌, false, List, [], ◌∷◌, ◌++◌, length, take, Ok, Err, vec_items, Result, sym, refl, ap, ◌∙◌, subst, inl, inr, arith, length-take}
 use Rattle.std.proofs.lemmas.List.{take_all}
 use Rattle.std.proofs.lemmas.Bool.{cond_both, false≢true, lt-ltb, le-ltb, cases_lt}
 use Rattle.tokens.specs.Bytes.{member}
@@ -15,11 +15,9 @@ use Rattle.tokens.specs.declared.text.Fault.TheVariants.{Memory, At}
 use Rattle.tokens.proofs.Lexing.{is_end, lead_not_end}
 use Rattle.grammar.specs.Machine.{Layout, SagaItems, State, Answer, at, step, run, start}
 use Rattle.grammar.specs.Machine as machine
-use Rattle.grammar.specs.Makes.{shown, without_places, tokens_of}
-use Rattle.grammar.specs.Limits.{Valid}
-use Rattle.grammar.proofs.SoFar.{sofar}
+use Rattle.grammar.specs.Makes.{shown, without_places}
 use Rattle.grammar.specs.Judged.{judge, outcome, too_long, finished, Meets}
-use Rattle.grammar.specs.Read.{IsScript, judged, Begins, ComesAfter, NotAllowed, Lacking, NumberFits, FaultyToken, TooLong, FirstFault, Reading}
+use Rattle.grammar.specs.Read.{IsScript, judged, Begins, NotAllowed, Lacking, NumberFits, FaultyToken, FirstFault, Reading}
 use Rattle.grammar.specs.Lists.{lists_of, sagas_of}
 use Rattle.grammar.specs.declared.Script.{Script}
 use Rattle.grammar.proofs.Grows.{accepted_is_made}
@@ -28,7 +26,6 @@ use Rattle.grammar.proofs.Stops.{Stop, stops, ended}
 use Rattle.grammar.proofs.Beginnings.{begins}
 use Rattle.grammar.proofs.Numbers.{number_fits}
 use Rattle.grammar.proofs.Loose.{loosely, allow, lacks, script_allowed}
-use Rattle.grammar.proofs.Keeps.{Kept, Keeps}
 
 -- the tokens of a text have no End among them
 shown_some : (t : Token) → is_end t ≡ false → shown t ≡ t ∷ []

@@ -1,11 +1,11 @@
 -- The text of what was read before a place of the grammar.
-use Rattle.std.proofs.Common.{◌≡◌, ℕ, ◌+◌, ◌≤◌, Bool, cond, List, [], ◌∷◌, ◌++◌, length}
+use Rattle.std.proofs.Common.{◌≡◌, ◌+◌, ◌≤◌, cond, List, [], ◌∷◌, ◌++◌, length}
 use Rattle.tokens.specs.declared.text.Token.{Token}
 use Rattle.tokens.specs.declared.text.Token.TheVariants.{Word, Name, Number, Open, Close}
 use Rattle.tokens.specs.declared.text.Word.TheVariants as word
 use Rattle.grammar.specs.Machine.{Layout, SagaItems, State, Place, title}
 use Rattle.grammar.specs.Machine as machine
-use Rattle.grammar.specs.Makes.{section_tokens, tag_section_tokens, site_tokens, items_tokens, tokens_of}
+use Rattle.grammar.specs.Makes.{section_tokens, tag_section_tokens, items_tokens, tokens_of}
 use Rattle.grammar.specs.declared.Section.{Section}
 use Rattle.grammar.specs.declared.Section.TheVariants.{Groups, Feeders}
 

@@ -1,5 +1,5 @@
 -- The tokens that the grammar makes of a site and its sagas.
-use Rattle.std.specs.Prelude.{◌≡◌, ℕ, ◌+◌, cond, ◌⊎◌, List, [], ◌∷◌, ◌++◌, length, ◌==◌}
+use Rattle.std.specs.Prelude.{◌≡◌, ℕ, cond, ◌⊎◌, List, [], ◌∷◌, ◌++◌, length, ◌==◌}
 use Rattle.tokens.specs.declared.text.Token.{Token}
 use Rattle.tokens.specs.declared.text.Token.TheVariants.{Word, Name, Number, Open, Close, Bad, End}
 use Rattle.tokens.specs.declared.text.Word.{Word as Words}

@@ -1,4 +1,6 @@
 //! What a script is, and what the grammar makes of it.
+#![tactic(auto)]
+
 use terms::{Level, Request, Tag};
 
 pub mod readers;

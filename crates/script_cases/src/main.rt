@@ -1,5 +1,7 @@
 //! Reads texts, one on each line of the input, and writes what each is read as: the script in full, or its fault.
 //! In a line `~` stands for a line feed and `#` for 256 spaces.
+#![tactic(auto)]
+
 ghost use Rattle.std.specs.Prelude.{◌≤◌, length, IfOk, vec_len};
 
 use grammar::{Item, Script};

@@ -1,5 +1,5 @@
 -- How words are spelt.
-use Rattle.std.proofs.Common.{◌≡◌, ℕ, true, cond, List, codes, sym, refl, ap, ◌∙◌}
+use Rattle.std.proofs.Common.{◌≡◌, ℕ, true, List, codes, sym, refl, ap, ◌∙◌}
 use Rattle.std.proofs.lemmas.Bool.{cond_both}
 use Rattle.std.proofs.lemmas.Slice.Eq.{bytes_eq-Decides}
 use Rattle.tokens.specs.Words.{same, word_of, spelling, WordsAreSpelt}

@@ -1,4 +1,4 @@
-use Rattle.std.proofs.Common.{◌≡◌, ℕ, ◌-◌, ◌≤◌, List, length}
+use Rattle.std.proofs.Common.{◌≡◌, ◌-◌, ◌≤◌, List, length}
 use Rattle.tokens.specs.Cursors.{remaining}
 use Rattle.grammar.specs.Machine.{SagaItems, Part, at}
 use Rattle.grammar.specs.Machine as machine
