@@ -1,4 +1,4 @@
 //! Worked examples, run on the code.
 #![tactic(auto)]
 
-pub mod bank;
+pub mod calls;

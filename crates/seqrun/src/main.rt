@@ -11,7 +11,7 @@ use journals::slots::SlotJournal;
 use journals::traits::Journal;
 use record::SLOT;
 use script::read;
-use site::bank::open;
+use site::site_bank::open;
 use std::io::Read;
 use tokens::text::Fault;
 

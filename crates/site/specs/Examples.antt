@@ -1,5 +1,5 @@
 -- Worked examples: a group of the value 3 and the ceiling 4, and a tag that hangs.
-use Rattle.std.specs.Prelude.{◌≡◌, ℕ, ◌+◌, ◌*◌, ◌^◌, true, false, List, [], ◌∷◌, Some, Ok}
+use Rattle.std.specs.Prelude.{◌≡◌, ℕ, ◌+◌, ◌*◌, ◌^◌, true, false, [], ◌∷◌, Some, Ok}
 use Rattle.terms.specs.declared.Key.{Key}
 use Rattle.terms.specs.declared.Entry.{Entry}
 use Rattle.terms.specs.declared.Refusal.TheVariants.{OtherRequest, Short, Above}

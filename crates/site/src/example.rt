@@ -3,7 +3,7 @@ ghost use Rattle.std.specs.Prelude.{◌≡◌, [], ◌∷◌, Ok};
 ghost use Rattle.site.specs.Banks.{bank_as};
 ghost use Rattle.site.specs.Examples.{group, feeder, tag, WorkedExamples};
 
-use crate::bank::{SiteBank, open};
+use crate::site_bank::{SiteBank, open};
 use participants::answer::SiteFault;
 use terms::{Level, Tag};
 

@@ -25,7 +25,7 @@ mod tests {
     use bank::bank::Bank;
     use participants::answer::Answer;
     use participants::participant::Participant;
-    use site::bank::SiteBank;
+    use site::site_bank::SiteBank;
     use site::example;
     use site::example::T7;
     use std::test::Fail;
