@@ -1,5 +1,5 @@
 -- Every lawful record keeps the order of steps and sagas.
-use Rattle.std.proofs.Common.{◌≡◌, ℕ, zero, suc, ◌+◌, ◌-◌, ◌<◌, ◌≤◌, Bool, true, false, cond, ◌&&◌, eqb, ltb, leb, List, [], ◌∷◌, ◌++◌, length, take, drop, Some, None, Ok, Err, Option, Result, sym, refl, ap, ◌∙◌, arith}
+use Rattle.std.proofs.Common.{◌≡◌, ℕ, zero, suc, ◌+◌, ◌-◌, ◌<◌, ◌≤◌, Bool, true, false, cond, ◌&&◌, eqb, ltb, leb, List, [], ◌∷◌, ◌++◌, length, take, Some, None, Ok, Err, Option, Result, sym, refl, ap, ◌∙◌, arith}
 use Rattle.std.specs.List.{slice_get, remove, AllByRecursion as All}
 use Rattle.std.proofs.lemmas.List.{length-append, length-take}
 use Rattle.std.proofs.ByRecursion.{All-weaker, All-push, All-take}
@@ -8,13 +8,12 @@ use Rattle.record.specs.declared.Record.{Record}
 use Rattle.law.specs.declared.event.Step.{Step}
 use Rattle.law.specs.declared.event.Phase.{Phase}
 use Rattle.law.specs.declared.event.Phase.TheVariants.{Running, Pending, Closed}
-use Rattle.law.specs.declared.event.Aim.{Aim}
 use Rattle.law.specs.declared.event.Aim.TheVariants.{Stepping, Retreating, Finishing}
 use Rattle.law.specs.declared.event.Event.{Event}
 use Rattle.law.specs.declared.event.Event.TheVariants.{Begin, Intent, Done, Refused, Mark, Join, Back, Undone, Finish, Settled, Unlawful}
 use Rattle.law.specs.Events.{event_of}
-use Rattle.law.specs.Law.{Saga, begun, in_bank, lawful, next, is_open, retreat, retreat_by, back_at, retreat_on, finishing, finish_by, target, with_pending, without_last, if_running, if_stepping, if_retreating, if_finishing}
-use Rattle.law.specs.Sagas.{Sagas, sagas, of_saga, placed, may_begin, begins, moves_by, moves, applied, taken, read_from, reading}
+use Rattle.law.specs.Law.{Saga, begun, in_bank, lawful, next, is_open, retreat, retreat_by, back_at, retreat_on, finishing, finish_by, target, with_pending, without_last, if_running, if_stepping, if_retreating}
+use Rattle.law.specs.Sagas.{Sagas, sagas, of_saga, placed, may_begin, begins, moves_by, moves, applied, taken, read_from}
 use Rattle.law.specs.Keeps.{Rising, Pends, Sound, Ordered, Keeps, Readings}
 
 no : {X : Type 0} → false ≡ true → X
