@@ -1,12 +1,11 @@
 -- What an answer of `do` says.
-use Rattle.std.proofs.Common.{◌≡◌, ℕ, ◌<◌, ◌≤◌, Bool, true, false, cond, not, leb, List, [], ◌∷◌, length, get_or, Some, None, sym, refl, ap, ◌∙◌, arith}
+use Rattle.std.proofs.Common.{◌≡◌, ℕ, ◌<◌, Bool, true, false, cond, not, leb, List, length, get_or, Some, None, refl, ap, ◌∙◌, arith}
 use Rattle.std.proofs.lemmas.List.{get_or_default}
 use Rattle.std.proofs.lemmas.Bool.{leb-false}
 use Rattle.bounded.specs.Firsts.{any, pick, place}
 use Rattle.bounded.proofs.Laws.{found, place_none}
 use Rattle.terms.specs.declared.Entry.{Entry}
 use Rattle.participants.specs.declared.cell.Cell.{Cell}
-use Rattle.participants.specs.declared.answer.Answer.{Answer}
 use Rattle.participants.specs.declared.answer.Answer.TheVariants.{Done, Already, Refused}
 use Rattle.terms.specs.declared.Refusal.TheVariants.{Unfit, OtherRequest, Full, Short, Above}
 use Rattle.participants.specs.Effects.{fitting}

@@ -1,5 +1,5 @@
 -- What the calls of a book leave, from what its parts leave.
-use Rattle.std.proofs.Common.{◌≡◌, ℕ, ◌<◌, ◌≤◌, Bool, true, false, cond, List, [], ◌∷◌, ◌++◌, map, length, get_or, is_some, Some, None, Option, sym, refl, ap, ◌∙◌, subst, arith}
+use Rattle.std.proofs.Common.{◌≡◌, ℕ, true, false, List, [], ◌∷◌, ◌++◌, map, is_some, Some, None, Option, sym, refl, ap, ◌∙◌, subst}
 use Rattle.std.specs.List.{slice_get, remove}
 use Rattle.std.proofs.lemmas.Option.{slice_get-get_or}
 use Rattle.std.proofs.lemmas.Bool.{lt-ltb, cond-true, cond-false}
@@ -11,7 +11,7 @@ use Rattle.terms.specs.declared.Entry.{Entry}
 use Rattle.participants.specs.declared.cell.Cell.{Cell}
 use Rattle.participants.specs.declared.cell.Side.{Side}
 use Rattle.participants.specs.declared.answer.Answer.TheVariants.{Done}
-use Rattle.participants.specs.Party.{Party, is_key, no_entry, lowered, raised, do_answer, do_after, after_answer, taken_off, stands, within_ceilings, keys_once, Raisable}
+use Rattle.participants.specs.Party.{Party, is_key, no_entry, lowered, raised, do_answer, do_after, after_answer, taken_off, within_ceilings, keys_once, Raisable}
 use Rattle.participants.proofs.Once.{once_push, once_cut}
 use Rattle.participants.proofs.Judged.{accepts, same_party}
 use Rattle.participants.proofs.Sound.{joined_sound, left_sound, raisable}

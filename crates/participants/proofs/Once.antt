@@ -1,9 +1,8 @@
 -- No key stands twice.
-use Rattle.std.proofs.Common.{◌≡◌, ℕ, Bool, true, false, cond, not, ◌&&◌, ◌||◌, eqb, List, [], ◌∷◌, ◌++◌, sym, refl, ap, ◌∙◌, arith}
+use Rattle.std.proofs.Common.{◌≡◌, Bool, true, false, cond, not, List, [], ◌∷◌, ◌++◌, refl, arith}
 use Rattle.std.proofs.lemmas.Bool.{and_parts, and_from, or_parts, or_from, not_from_false, not-true}
 use Rattle.std.proofs.lemmas.Bool.Decides.{nat_tests}
 use Rattle.bounded.specs.Firsts.{any, cut}
-use Rattle.terms.specs.declared.Key.{Key}
 use Rattle.terms.specs.declared.Entry.{Entry}
 use Rattle.participants.specs.Party.{is_key, keys_once}
 

@@ -1,5 +1,5 @@
 -- What a book means.
-use Rattle.std.specs.Prelude.{ℕ, List, Ok, Err, Result}
+use Rattle.std.specs.Prelude.{ℕ, Ok, Err, Result}
 use Rattle.bounded.specs.Held.{held}
 use Rattle.participants.specs.declared.book.Book.{Book}
 use Rattle.participants.specs.declared.answer.SiteFault.{SiteFault}

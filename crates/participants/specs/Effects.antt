@@ -1,5 +1,5 @@
 -- What a request does to a cell. This is the one place where verbs have a meaning.
-use Rattle.std.specs.Prelude.{ℕ, ◌+◌, ◌-◌, Bool, true, false, cond, not, ◌&&◌, ◌||◌, List, [], ◌∷◌, sum_by, ◌==◌, nat_eq, nat_le}
+use Rattle.std.specs.Prelude.{ℕ, Bool, cond, not, ◌&&◌, ◌||◌, List, sum_by, ◌==◌, nat_eq, nat_le}
 use Rattle.bounded.specs.Firsts.{any}
 use Rattle.terms.specs.declared.Request.{Request}
 use Rattle.terms.specs.declared.Entry.{Entry}

@@ -1,5 +1,5 @@
 -- A participant: its verbs, its cells and its standing entries in order of acceptance; and what each call answers and leaves.
-use Rattle.std.specs.Prelude.{◌≡◌, ℕ, ◌+◌, ◌-◌, ◌≤◌, Bool, true, false, cond, not, ◌&&◌, ◌||◌, List, [], ◌∷◌, ◌++◌, map, length, Some, None, Option, ◌==◌, nat_le, nat_lt}
+use Rattle.std.specs.Prelude.{◌≡◌, ℕ, ◌+◌, ◌-◌, ◌≤◌, Bool, true, cond, not, ◌&&◌, List, [], ◌∷◌, ◌++◌, map, length, Some, None, Option, ◌==◌, nat_le, nat_lt}
 use Rattle.std.specs.List.{AllByRecursion as All}
 use Rattle.bounded.specs.Firsts.{any, every, pick, cut}
 use Rattle.terms.specs.declared.Key.{Key}
@@ -10,7 +10,6 @@ use Rattle.participants.specs.declared.cell.Side.{Side}
 use Rattle.participants.specs.declared.cell.Side.TheVariants.{Take, Give}
 use Rattle.participants.specs.declared.answer.Answer.{Answer}
 use Rattle.participants.specs.declared.answer.Answer.TheVariants.{Done, Already, Refused}
-use Rattle.terms.specs.declared.Refusal.{Refusal}
 use Rattle.terms.specs.declared.Refusal.TheVariants.{Unfit, OtherRequest, Full, Short, Above}
 use Rattle.participants.specs.Effects.{takes, gives, effect, taken, given, fitting}
 

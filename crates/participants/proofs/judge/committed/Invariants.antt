@@ -1,5 +1,5 @@
-use Rattle.std.proofs.Common.{◌≡◌, ◌+◌, ◌*◌, ◌^◌, ◌≤◌, take}
-use Rattle.participants.specs.Effects.{taken, goal as gave}
+use Rattle.std.proofs.Common.{◌≡◌, ◌+◌, ◌*◌, ◌≤◌, take}
+use Rattle.participants.specs.Effects.{taken, given as gave}
 use Rattle.participants.proofs.judge.committed.Given as goal
 
 abbrev pub invariant-loop-e : goal.invariant-loop-e

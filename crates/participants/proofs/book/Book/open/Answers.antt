@@ -12,4 +12,7 @@ pub invariant_of-result : goal.invariant_of-result
 invariant_of-result g c =
     let cells = held c.args.cells in
     let range : every in_range cells ≡ true = sym (c.all_in_range.ensures ∙ ap (λ (xs : List Cell). every in_range xs) c.as_slice.ensures) ∙ c.if-not-all_in_range.false in
-    (ap keys_once c.new.ensures, (ap (λ (es : List Entry). within_ceilings cells es) c.new.ensures ∙ opened_sound cells range, tt))
+    record {
+      once = ap keys_once c.new.ensures;
+      sound = ap (λ (es : List Entry). within_ceilings cells es) c.new.ensures ∙ opened_sound cells range;
+    }

@@ -1,4 +1,4 @@
-use Rattle.std.proofs.Common.{◌≡◌, sym, ap, ◌∙◌}
+use Rattle.std.proofs.Common.{◌≡◌, ap, ◌∙◌}
 use Rattle.participants.specs.declared.answer.Answer.TheVariants.{Done}
 use Rattle.participants.specs.Party.{Party, do_answer}
 use Rattle.participants.specs.Books.{book_party}
@@ -11,7 +11,10 @@ pub invariant_of-self : goal.invariant_of-self
 invariant_of-self g c =
     let s = c.args.self.now in
     let yes : Done ≡ do_answer (book_party s) c.args.entry = c.in-Done.ensures ∙ ap (λ (q : Party). do_answer q c.args.entry) (same_party _ _ _ _ _ _ c.as_slice.ensures c.as_slice-2.ensures c.as_slice-3.ensures) in
-    (performed_once (book_party s) c.args.entry (held c.lower.new.cells) _ yes c.lower.ensures c.join.ensures s.once, (performed_sound (book_party s) c.args.entry _ _ yes c.lower.ensures c.join.ensures s.sound, tt))
+    record {
+      once = performed_once (book_party s) c.args.entry (held c.lower.new.cells) _ yes c.lower.ensures c.join.ensures s.once;
+      sound = performed_sound (book_party s) c.args.entry _ _ yes c.lower.ensures c.join.ensures s.sound;
+    }
 
 pub returns-in-Done : goal.returns-in-Done
 returns-in-Done g c =

@@ -1,4 +1,4 @@
-use Rattle.std.proofs.Common.{◌≡◌, List, is_some, ap, ◌∙◌}
+use Rattle.std.proofs.Common.{List, is_some, ap, ◌∙◌}
 use Rattle.bounded.specs.Held.{held}
 use Rattle.bounded.specs.Firsts.{place}
 use Rattle.terms.specs.declared.Entry.{Entry}
