@@ -1,8 +1,7 @@
 -- Where there is no participant.
-use Rattle.std.proofs.Common.{◌≡◌, ℕ, cond, eqb, List, [], sym, refl, ap, ◌∙◌, eq-eqb}
+use Rattle.std.proofs.Common.{◌≡◌, ℕ, eqb, List, [], sym, refl, ap, ◌∙◌, eq-eqb}
 use Rattle.std.proofs.lemmas.Bool.{cond_both, cond-true}
 use Rattle.terms.specs.declared.Entry.{Entry}
-use Rattle.participants.specs.declared.answer.Answer.{Answer}
 use Rattle.participants.specs.declared.answer.Answer.TheVariants.{Refused}
 use Rattle.terms.specs.declared.Refusal.TheVariants.{Unfit}
 use Rattle.participants.specs.Party.{Party, do_answer}

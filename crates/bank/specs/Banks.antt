@@ -1,9 +1,6 @@
 -- A call on the participant of an index, the first being 1. Where there is none, nothing stands and nothing is known.
-use Rattle.std.specs.Prelude.{ℕ, zero, suc, ◌-◌, min, Bool, true, false, cond, List, [], ◌∷◌, length, Option, ◌==◌, slice_index_or}
-use Rattle.terms.specs.declared.Key.{Key}
-use Rattle.terms.specs.declared.Entry.{Entry}
-use Rattle.participants.specs.declared.answer.Answer.{Answer}
-use Rattle.participants.specs.Party.{Party, do_answer, do_after, undo_after, settle_after, stands, value_of}
+use Rattle.std.specs.Prelude.{ℕ, zero, suc, ◌-◌, min, cond, List, [], ◌∷◌, length, ◌==◌, slice_index_or}
+use Rattle.participants.specs.Party.{Party}
 
 -- a participant with no verbs and no cells: it refuses every request with 40
 abbrev pub nobody : Party

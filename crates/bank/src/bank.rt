@@ -1,6 +1,6 @@
 //! Participants by index, the first being 1.
 ghost use Rattle.std.specs.Prelude.{◌≡◌, ℕ, ◌+◌, ◌≤◌, List};
-ghost use Rattle.std.specs.List.{AllByRecursion as All};
+ghost use Rattle.std.specs.List.{AllByRecursion};
 ghost use Rattle.participants.specs.Party.{Party, KeepsCeilings, Orderly, do_answer, do_after, undo_after, settle_after, stands, value_of};
 ghost use Rattle.bank.specs.Banks.{count_of, party_at, change_at};
 
@@ -41,8 +41,8 @@ pub trait Bank {
         ensures { result ≡ stands (party_at (parties self.now) participant) key };
 
     // V + T + G ≤ C at every cell of every participant.
-    ghost ceilings: { (x : Self) → All KeepsCeilings (parties x) };
+    ghost ceilings: { (x : Self) → AllByRecursion KeepsCeilings (parties x) };
 
     // At every participant no key stands twice, and at most 64 entries stand.
-    ghost orderly: { (x : Self) → All Orderly (parties x) };
+    ghost orderly: { (x : Self) → AllByRecursion Orderly (parties x) };
 }

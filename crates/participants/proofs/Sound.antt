@@ -1,6 +1,6 @@
 -- Each call keeps V + T + G ≤ C at every cell.
 use Rattle.std.proofs.Common.{◌≡◌, ℕ, ◌+◌, ◌≤◌, true, false, ltb, List, [], ◌∷◌, ◌++◌, map, refl, ⊎_elim, arith}
-use Rattle.std.specs.List.{AllByRecursion as All}
+use Rattle.std.specs.List.{AllByRecursion}
 use Rattle.std.proofs.lemmas.List.Sums.{sum_by_push}
 use Rattle.std.proofs.lemmas.Bool.{and_parts, and_from, and_cases, or_parts, le-leb, leb-true, ltb-false}
 use Rattle.bounded.specs.Firsts.{any, every, pick, cut}
@@ -78,6 +78,6 @@ pub keeps : (p : Party) → within_ceilings p.cells p.entries ≡ true → Keeps
 unfolding within_ceilings
 keeps p w = go p.cells w
   where
-    go : (cells : List Cell) → every (within_ceiling p.entries) cells ≡ true → All (λ x. (x.value + (taken x.number p.entries + given x.number p.entries) ≤ x.ceiling) × (x.ceiling ≤ 1000000)) cells
+    go : (cells : List Cell) → every (within_ceiling p.entries) cells ≡ true → AllByRecursion (λ x. (x.value + (taken x.number p.entries + given x.number p.entries) ≤ x.ceiling) × (x.ceiling ≤ 1000000)) cells
     go [] w = tt
     go (x ∷ cells) w = let a = and_parts _ _ w in let k = within p.entries x a.0 in ((k.low, k.small), go cells a.1)

@@ -1,6 +1,6 @@
 -- A participant: its verbs, its cells and its standing entries in order of acceptance; and what each call answers and leaves.
 use Rattle.std.specs.Prelude.{◌≡◌, ℕ, ◌+◌, ◌-◌, ◌≤◌, Bool, true, cond, not, ◌&&◌, List, [], ◌∷◌, ◌++◌, map, length, Some, None, Option, ◌==◌, nat_le, nat_lt}
-use Rattle.std.specs.List.{AllByRecursion as All}
+use Rattle.std.specs.List.{AllByRecursion}
 use Rattle.bounded.specs.Firsts.{any, every, pick, cut}
 use Rattle.terms.specs.declared.Key.{Key}
 use Rattle.terms.specs.declared.Request.{Request}
@@ -103,7 +103,7 @@ unfoldable pub within_ceilings : List Cell → List Entry → Bool
 within_ceilings cells es = every (within_ceiling es) cells
 
 abbrev pub KeepsCeilings : Party → Type 0
-KeepsCeilings p = All (λ x. (x.value + (taken x.number p.entries + given x.number p.entries) ≤ x.ceiling) × (x.ceiling ≤ 1000000)) p.cells
+KeepsCeilings p = AllByRecursion (λ x. (x.value + (taken x.number p.entries + given x.number p.entries) ≤ x.ceiling) × (x.ceiling ≤ 1000000)) p.cells
 
 -- no key stands twice
 abbrev pub keys_once : List Entry → Bool
@@ -116,4 +116,4 @@ Orderly p = (keys_once p.entries ≡ true) × (length p.entries ≤ 64)
 
 -- one side of the request's effect can be added to every value
 unfoldable pub Raisable : Side → Request → List Cell → Type 0
-Raisable s q cells = All (λ x. x.value + effect s x.number q ≤ 1000000) cells
+Raisable s q cells = AllByRecursion (λ x. x.value + effect s x.number q ≤ 1000000) cells
