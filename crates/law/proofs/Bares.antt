@@ -1,10 +1,9 @@
 -- The law never looks at the notes.
-use Rattle.std.proofs.Common.{◌≡◌, ℕ, ◌+◌, Bool, true, false, cond, ◌&&◌, eqb, ltb, leb, List, [], ◌∷◌, ◌++◌, map, length, Some, None, Ok, Err, Option, Result, sym, refl, ap, ◌∙◌, arith}
+use Rattle.std.proofs.Common.{◌≡◌, ℕ, ◌+◌, Bool, true, false, cond, ◌&&◌, ltb, leb, List, [], ◌∷◌, ◌++◌, map, Some, None, Ok, Err, Option, Result, sym, refl, ap, ◌∙◌, arith}
 use lib.ListN.{length-map}
 use Rattle.std.specs.Option.{option_map}
-use Rattle.std.specs.List.{AllByRecursion as All}
+use Rattle.std.specs.List.{AllByRecursion}
 use Rattle.std.proofs.lemmas.List.{map_push}
-use Rattle.std.proofs.ByRecursion.{All-push}
 use Rattle.bounded.specs.Firsts.{cut, put, first}
 use Rattle.record.specs.declared.Record.{Record}
 use Rattle.law.specs.declared.event.Event.{Event}
@@ -123,7 +122,7 @@ read_bare {V} n v i t t' (x ∷ rs) e =
 -- what holds of every note
 module _ {V : Type 0} (P : V → Type 0) (s : ℕ) where
   abbrev pub Noted : List (Saga × V) → Type 0
-  Noted rows = All (λ (x : Saga × V). P x.1) rows
+  Noted rows = AllByRecursion (λ (x : Saga × V). P x.1) rows
 
   pub noted_first : (rows : List (Saga × V)) (x : Saga × V) → Noted rows → first (of_saga s) rows ≡ Some x → P x.1
   noted_first [] x h e = let z : ◌≡◌ {A = ℕ} 0 1 = cc in absurd (omega arith)
@@ -197,10 +196,10 @@ module _ {V : Type 0} (P : V → Type 0) (s : ℕ) where
   noted_applied n Unlawful v t p h = noted_moves n Unlawful t h
 
 -- all notes of a reading are the one it was made with
-pub noted_read : {V : Type 0} (P : V → Type 0) (n : ℕ) (v : V) (i : ℕ) (t t' : Sagas V) (rs : List Record) → P v → All (λ (x : Saga × V). P x.1) t.rows → read_from n v i t rs ≡ Ok t' → All (λ (x : Saga × V). P x.1) t'.rows
+pub noted_read : {V : Type 0} (P : V → Type 0) (n : ℕ) (v : V) (i : ℕ) (t t' : Sagas V) (rs : List Record) → P v → AllByRecursion (λ (x : Saga × V). P x.1) t.rows → read_from n v i t rs ≡ Ok t' → AllByRecursion (λ (x : Saga × V). P x.1) t'.rows
 noted_read {V} P n v i t t' [] p h e = let same : t ≡ t' = cc in rw (← same) h
 noted_read {V} P n v i t t' (x ∷ rs) p h e = go (taken n v t x).0 (noted_read P n v (i + 1) (taken n v t x).1 t' rs p (noted_applied P x.saga n (event_of x) v t p h)) e
   where
-    go : (b : Bool) → (read_from n v (i + 1) (taken n v t x).1 rs ≡ Ok t' → All (λ (x : Saga × V). P x.1) t'.rows) → ◌≡◌ {A = Result (Sagas V) ℕ} (cond b (read_from n v (i + 1) (taken n v t x).1 rs) (Err i)) (Ok t') → All (λ (x : Saga × V). P x.1) t'.rows
+    go : (b : Bool) → (read_from n v (i + 1) (taken n v t x).1 rs ≡ Ok t' → AllByRecursion (λ (x : Saga × V). P x.1) t'.rows) → ◌≡◌ {A = Result (Sagas V) ℕ} (cond b (read_from n v (i + 1) (taken n v t x).1 rs) (Err i)) (Ok t') → AllByRecursion (λ (x : Saga × V). P x.1) t'.rows
     go true ih q = ih q
     go false ih q = let z : ◌≡◌ {A = ℕ} 0 1 = cc in absurd (omega arith)

@@ -1,6 +1,6 @@
 -- Every lawful record keeps the order of steps and sagas.
-use Rattle.std.proofs.Common.{◌≡◌, ℕ, zero, suc, ◌+◌, ◌-◌, ◌<◌, ◌≤◌, Bool, true, false, cond, ◌&&◌, eqb, ltb, leb, List, [], ◌∷◌, ◌++◌, length, take, drop, Some, None, Ok, Err, Option, Result, sym, refl, ap, ◌∙◌, arith}
-use Rattle.std.specs.List.{slice_get, remove, AllByRecursion as All}
+use Rattle.std.proofs.Common.{◌≡◌, ℕ, zero, suc, ◌+◌, ◌-◌, ◌<◌, ◌≤◌, Bool, true, false, cond, ◌&&◌, eqb, ltb, leb, List, [], ◌∷◌, ◌++◌, length, take, Some, None, Ok, Err, Option, Result, sym, refl, ap, ◌∙◌, arith}
+use Rattle.std.specs.List.{slice_get, remove, AllByRecursion}
 use Rattle.std.proofs.lemmas.List.{length-append, length-take}
 use Rattle.std.proofs.ByRecursion.{All-weaker, All-push, All-take}
 use Rattle.bounded.specs.Firsts.{cut, put, first}
@@ -8,13 +8,12 @@ use Rattle.record.specs.declared.Record.{Record}
 use Rattle.law.specs.declared.event.Step.{Step}
 use Rattle.law.specs.declared.event.Phase.{Phase}
 use Rattle.law.specs.declared.event.Phase.TheVariants.{Running, Pending, Closed}
-use Rattle.law.specs.declared.event.Aim.{Aim}
 use Rattle.law.specs.declared.event.Aim.TheVariants.{Stepping, Retreating, Finishing}
 use Rattle.law.specs.declared.event.Event.{Event}
 use Rattle.law.specs.declared.event.Event.TheVariants.{Begin, Intent, Done, Refused, Mark, Join, Back, Undone, Finish, Settled, Unlawful}
 use Rattle.law.specs.Events.{event_of}
-use Rattle.law.specs.Law.{Saga, begun, in_bank, lawful, next, is_open, retreat, retreat_by, back_at, retreat_on, finishing, finish_by, target, with_pending, without_last, if_running, if_stepping, if_retreating, if_finishing}
-use Rattle.law.specs.Sagas.{Sagas, sagas, of_saga, placed, may_begin, begins, moves_by, moves, applied, taken, read_from, reading}
+use Rattle.law.specs.Law.{Saga, begun, in_bank, lawful, next, is_open, retreat, retreat_by, back_at, retreat_on, finishing, finish_by, target, with_pending, without_last, if_running, if_stepping, if_retreating}
+use Rattle.law.specs.Sagas.{Sagas, sagas, of_saga, placed, may_begin, begins, moves_by, moves, applied, taken, read_from}
 use Rattle.law.specs.Keeps.{Rising, Pends, Sound, Ordered, Keeps, Readings}
 
 no : {X : Type 0} → false ≡ true → X
@@ -40,11 +39,11 @@ rising_take zero g l (t ∷ ts) r = tt
 rising_take (suc k) g l [] r = tt
 rising_take (suc k) g l (t ∷ ts) r = (r.0, r.1, rising_take k t.number l ts r.2)
 
-rising_push : (g l : ℕ) (ts : List Step) (t : Step) → g < t.number → t.number ≤ l → All (λ (u : Step). u.number < t.number) ts → Rising g l ts → Rising g l (ts ++ t ∷ [])
+rising_push : (g l : ℕ) (ts : List Step) (t : Step) → g < t.number → t.number ≤ l → AllByRecursion (λ (u : Step). u.number < t.number) ts → Rising g l ts → Rising g l (ts ++ t ∷ [])
 rising_push g l [] t a b h r = (a, b, tt)
 rising_push g l (u ∷ ts) t a b h r = (r.0, r.1, rising_push u.number l ts t h.0 b h.1 r.2)
 
-rising_below : (g l m : ℕ) (ts : List Step) → l < m → Rising g l ts → All (λ (u : Step). u.number < m) ts
+rising_below : (g l m : ℕ) (ts : List Step) → l < m → Rising g l ts → AllByRecursion (λ (u : Step). u.number < m) ts
 rising_below g l m [] h r = tt
 rising_below g l m (t ∷ ts) h r = (omega (arith, r.1), rising_below t.number l m ts h r.2)
 
@@ -81,7 +80,7 @@ stands_next Running k l ts e q r = no e
 stands_next Closed k l ts e q r = no e
 stands_next (Pending Stepping t) k l ts e q r =
     let same : t.number ≡ l = q.0 in
-    let below : All (λ (u : Step). u.number < t.number) ts = rw same q.2 in
+    let below : AllByRecursion (λ (u : Step). u.number < t.number) ts = rw same q.2 in
     rising_push 0 l ts t (omega (arith, q.1)) (omega arith) below r
 stands_next (Pending (Retreating g d) t) k l ts e q r = no e
 stands_next (Pending Finishing t) k l ts e q r = no e

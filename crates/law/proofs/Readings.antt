@@ -1,12 +1,12 @@
 -- The law's reading, record by record.
-use Rattle.std.proofs.Common.{◌≡◌, ℕ, suc, ◌+◌, ◌<◌, ◌≤◌, Bool, true, false, cond, List, [], ◌∷◌, length, get_or, drop, Some, None, Ok, Err, Result, sym, refl, ap, ◌∙◌}
+use Rattle.std.proofs.Common.{◌≡◌, ℕ, ◌+◌, ◌<◌, ◌≤◌, Bool, true, false, cond, List, ◌∷◌, length, get_or, drop, Some, Ok, Err, sym, ap, ◌∙◌}
 use Rattle.std.specs.List.{slice_get}
 use Rattle.std.proofs.lemmas.List.{drop_more, drop_all}
 use Rattle.std.proofs.lemmas.Option.{slice_get-get_or}
 use Rattle.record.specs.declared.Record.{Record}
 use Rattle.law.specs.declared.event.Event.{Event}
 use Rattle.law.specs.Events.{event_of}
-use Rattle.law.specs.Sagas.{Sagas, sagas, applied, taken, read_from}
+use Rattle.law.specs.Sagas.{Sagas, applied, taken, read_from}
 
 -- the i-th record as the first of those left
 pub left_at : (rs : List Record) (i : ℕ) (r : Record) → i < length rs → Some r ≡ slice_get rs i → drop i rs ≡ r ∷ drop (i + 1) rs

@@ -1,17 +1,16 @@
 -- The table of rows as the list of sagas that it means.
-use Rattle.std.proofs.Common.{◌≡◌, ℕ, zero, suc, ◌+◌, ◌*◌, ◌<◌, ◌≤◌, Bool, true, false, cond, ◌&&◌, ◌||◌, eqb, ltb, leb, List, [], ◌∷◌, ◌++◌, map, length, get_or, take, drop, set, Some, None, sum_by, Option, sym, refl, ap, ◌∙◌, arith}
+use Rattle.std.proofs.Common.{◌≡◌, ℕ, ◌+◌, ◌<◌, ◌≤◌, Bool, true, false, cond, ltb, List, [], ◌∷◌, ◌++◌, map, length, get_or, take, set, Some, None, sum_by, sym, refl, ap, ◌∙◌, arith}
 use lib.ListN.{length-map}
 use Rattle.std.specs.List.{slice_get, remove}
-use Rattle.std.specs.Option.{option_map}
 use Rattle.std.proofs.lemmas.List.{map_push, get_or-map}
 use Rattle.std.proofs.lemmas.List.Sums.{sum_by_more}
-use Rattle.std.proofs.lemmas.Bool.{lt-ltb, le-ltb, le-leb, lt-leb}
+use Rattle.std.proofs.lemmas.Bool.{lt-ltb, le-leb}
 use Rattle.bounded.specs.Held.{push_after}
 use Rattle.bounded.specs.Firsts.{place, cut, put, first}
 use Rattle.bounded.proofs.Mapped.{first_not, first_at, put_at, cut_at}
 use Rattle.law.specs.declared.event.Event.{Event}
 use Rattle.law.specs.Law.{Saga, begun, lawful, next, moved, owes, is_open}
-use Rattle.law.specs.Sagas.{Sagas, sagas, of_saga, begins, moves, moves_by, placed, renoted}
+use Rattle.law.specs.Sagas.{sagas, of_saga, begins, moves, moves_by, renoted}
 
 -- the two answers of a move
 abbrev Told : Type 0

@@ -1,6 +1,5 @@
 -- What a record says, and the record that says it.
-use Rattle.std.specs.Prelude.{◌≡◌, ℕ, Bool, true, false, cond, ◌&&◌, Some, None, Option, ◌==◌}
-use Rattle.terms.specs.declared.Request.{Request}
+use Rattle.std.specs.Prelude.{◌≡◌, ℕ, Bool, cond, ◌&&◌, Some, None, Option, ◌==◌}
 use Rattle.terms.specs.declared.Refusal.{Refusal}
 use Rattle.terms.specs.Codes.{refusal_code, refusal_of}
 use Rattle.record.specs.declared.Record.{Record}

@@ -1,6 +1,6 @@
 -- What every lawful list of records keeps.
 use Rattle.std.specs.Prelude.{◌≡◌, ℕ, ◌-◌, ◌<◌, ◌≤◌, List, [], ◌∷◌, ◌++◌, length, Some, Ok, Err}
-use Rattle.std.specs.List.{slice_get, AllByRecursion as All}
+use Rattle.std.specs.List.{slice_get, AllByRecursion}
 use Rattle.terms.specs.declared.Request.{Request}
 use Rattle.record.specs.declared.Record.{Record}
 use Rattle.law.specs.declared.event.Step.{Step}
@@ -20,7 +20,7 @@ Rising g l (t ∷ ts) = (g < t.number) × (t.number ≤ l) × Rising t.number l 
 -- the pending step is the last one issued, which does not stand; the highest that stands, above the target; or the lowest
 abbrev pub Pends : Phase → ℕ → List Step → Type 0
 Pends Running l ts = Unit {0}
-Pends (Pending Stepping t) l ts = (t.number ≡ l) × (0 < l) × All (λ u. u.number < l) ts
+Pends (Pending Stepping t) l ts = (t.number ≡ l) × (0 < l) × AllByRecursion (λ u. u.number < l) ts
 Pends (Pending (Retreating g d) t) l ts = (slice_get ts (length ts - 1) ≡ Some t) × (g < t.number)
 Pends (Pending Finishing t) l ts = slice_get ts 0 ≡ Some t
 Pends Closed l ts = ⊥
@@ -31,7 +31,7 @@ pub record Sound (s : Saga) : Type 0 where
   -- standing steps were issued, and stand in the order of their numbers, none twice
   pub rises : Rising 0 s.last s.standing
   pub few_marks : length s.marks ≤ 8
-  pub marked : All (λ m. m ≤ s.last) s.marks
+  pub marked : AllByRecursion (λ m. m ≤ s.last) s.marks
   pub pends : Pends s.phase s.last s.standing
 
 -- sagas whose numbers rise strictly, from above g and at most l

@@ -1,5 +1,5 @@
 -- What a table means.
-use Rattle.std.specs.Prelude.{ℕ, List, map, Ok, Err, Result}
+use Rattle.std.specs.Prelude.{ℕ, map, Ok, Err, Result}
 use Rattle.bounded.specs.Held.{held}
 use Rattle.law.specs.declared.table.Open.{Open}
 use Rattle.law.specs.declared.table.Table.{Table}

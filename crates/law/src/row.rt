@@ -1,10 +1,11 @@
 //! What is kept of an open saga.
-ghost use Rattle.std.specs.Prelude.{◌+◌, ◌≤◌, length};
+ghost use Rattle.std.specs.Prelude.{◌≡◌, ◌+◌, ◌≤◌, length, ⊤};
 ghost use Rattle.bounded.specs.Held.{held};
 ghost use Rattle.law.specs.Coming.{coming};
 
 use crate::event::{Outcome, Phase, Step};
 use bounded::Bounded;
+use std::alloc::AllocError;
 
 pub mod methods;
 
@@ -18,6 +19,16 @@ pub(crate) struct Row {
     outcome: Outcome,
     ghost few: { last ≤ 32 },
     ghost room: { coming phase + length (held standing) ≤ last },
+}
+
+impl Clone for Row {
+    ghost is_clone = { λ s r. r ≡ s };
+
+    ghost is_infallible = { λ _. ⊤ };
+
+    fn clone(&self) -> Result<Row, AllocError> {
+        Ok(*self)
+    }
 }
 
 impl Copy for Row {}

@@ -1,6 +1,6 @@
 -- Of one saga: what the participants hold and what settles took off, beside what the journal shows, before and after a record or a call.
-use Rattle.std.proofs.Common.{◌≡◌, ℕ, ◌+◌, ◌-◌, ◌<◌, Bool, true, false, cond, eqb, ◌⊎◌, List, [], ◌∷◌, ◌++◌, map, length, take, Some, None, filter, Option, sym, refl, ap, ◌∙◌, subst, subst₂, inl, inr, ⊎_elim, append-nil}
-use Rattle.std.specs.List.{remove, AllByRecursion as All}
+use Rattle.std.proofs.Common.{◌≡◌, ℕ, ◌-◌, ◌<◌, Bool, true, false, cond, eqb, ◌⊎◌, List, [], ◌∷◌, ◌++◌, map, length, take, Some, None, filter, Option, sym, refl, ap, ◌∙◌, subst, subst₂, inl, inr, ⊎_elim, append-nil}
+use Rattle.std.specs.List.{remove, AllByRecursion}
 use Rattle.std.proofs.lemmas.List.{map-append}
 use Rattle.std.proofs.lemmas.List.Elements.{filter-append}
 use Rattle.std.proofs.lemmas.Bool.{cond_both, cond-true, cond-false, cases_Bool, cases_eq, eq-eqb, ne_eqb, eqb-true, and_parts}
@@ -267,7 +267,7 @@ module _ (ps : List Party) (gone : Taken) (s : ℕ) (t : Step) where
     asked_end o (inr f) = λ p. (off_again Finishing (settle_takes ps s t) (λ q. (f q).0) p, ap (λ (x : Taken). lost_of (gone ++ x) s p) (settle_again (f t.participant).0) ∙ lost_same (o ++ t ∷ []) p (f p).1)
 
   -- a do: WentWell, and the step stands; or refused, and it does not
-  module _ (l o : List Step) (new : All (λ (u : Step). u.number < t.number) l) where
+  module _ (l o : List Step) (new : AllByRecursion (λ (u : Step). u.number < t.number) l) where
     abbrev Did : Outcome → Type 0
     Did WentWell = Shows s (held (asked_after Stepping ps s t) s) (lost_of (gone ++ []) s) (l ++ t ∷ []) o
     Did (WentNot c) = Shows s (held (asked_after Stepping ps s t) s) (lost_of (gone ++ []) s) l o
@@ -300,7 +300,7 @@ module _ (ps : List Party) (gone : Taken) (s : ℕ) (t : Step) where
     abbrev row : Aim → Saga
     row a = saga n (Pending a t) k l ms oc
 
-    did_one : (new : All (λ (u : Step). u.number < t.number) l) (y : Outcome) → Did l o new y → One (Told y) s (held (asked_after Stepping ps s t) s) (lost_of (gone ++ []) s) (Some (row Stepping)) o
+    did_one : (new : AllByRecursion (λ (u : Step). u.number < t.number) l) (y : Outcome) → Did l o new y → One (Told y) s (held (asked_after Stepping ps s t) s) (lost_of (gone ++ []) s) (Some (row Stepping)) o
     did_one new WentWell d = record { fits = d; heard = tt }
     did_one new (WentNot c) d = record { fits = d; heard = tt }
 

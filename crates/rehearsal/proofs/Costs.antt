@@ -1,6 +1,6 @@
 -- A record uses a place, and lowers by one or more what is owed, but for what its call wanted free.
 use Rattle.std.proofs.Common.{◌≡◌, ℕ, ◌+◌, ◌-◌, ◌≤◌, Bool, true, false, cond, eqb, ltb, List, [], ◌∷◌, length, take, Some, None, sum_by, Option, refl, ap, arith}
-use Rattle.std.specs.List.{remove, slice_get, AllByRecursion as All}
+use Rattle.std.specs.List.{remove, slice_get, AllByRecursion}
 use Rattle.std.proofs.lemmas.List.Sums.{sum_by-cons}
 use Rattle.std.proofs.lemmas.List.{length-take, length-append}
 use Rattle.std.proofs.lemmas.List.Edits.{length-remove}
@@ -178,16 +178,16 @@ module _ (s : ℕ) (y : Bare) where
       omega (arith, z, i))
 
   module _ (P : Bare → Type 0) where
-    pub all_put : (rows : List Bare) → P y → All P rows → All P (put (of_saga s) y rows)
+    pub all_put : (rows : List Bare) → P y → AllByRecursion P rows → AllByRecursion P (put (of_saga s) y rows)
     all_put [] p h = (p, tt)
-    all_put (r ∷ rows) p h = cond_both (of_saga s r) _ _ (λ (l : List Bare). All P l) (λ _. (p, h.1)) (λ _. (h.0, all_put rows p h.1))
+    all_put (r ∷ rows) p h = cond_both (of_saga s r) _ _ (λ (l : List Bare). AllByRecursion P l) (λ _. (p, h.1)) (λ _. (h.0, all_put rows p h.1))
 
-    pub all_cut : (rows : List Bare) → All P rows → All P (cut (of_saga s) rows)
+    pub all_cut : (rows : List Bare) → AllByRecursion P rows → AllByRecursion P (cut (of_saga s) rows)
     all_cut [] h = h
-    all_cut (r ∷ rows) h = cond_both (of_saga s r) _ _ (λ (l : List Bare). All P l) (λ _. h.1) (λ _. (h.0, all_cut rows h.1))
+    all_cut (r ∷ rows) h = cond_both (of_saga s r) _ _ (λ (l : List Bare). AllByRecursion P l) (λ _. h.1) (λ _. (h.0, all_cut rows h.1))
 
-    pub all_placed : (rows : List Bare) → P y → All P rows → All P (placed s y rows)
-    all_placed rows p h = cond_both (is_open y.0.phase) _ _ (λ (l : List Bare). All P l) (λ _. all_put rows p h) (λ _. all_cut rows h)
+    pub all_placed : (rows : List Bare) → P y → AllByRecursion P rows → AllByRecursion P (placed s y rows)
+    all_placed rows p h = cond_both (is_open y.0.phase) _ _ (λ (l : List Bare). AllByRecursion P l) (λ _. all_put rows p h) (λ _. all_cut rows h)
 
 -- the record of a call is no Begin
 pub told_same : {V : Type 0} (n s : ℕ) (a : Aim) (t : Step) (y : Outcome) (v : V) (p : Sagas V) → applied n s (event_for a t y) v p ≡ moves n s (event_for a t y) p

@@ -1,6 +1,6 @@
 -- What every lawful journal keeps: its open sagas are sound, their steps are those that were issued, and only a finished saga has settled ones.
-use Rattle.std.proofs.Common.{◌≡◌, ℕ, ◌+◌, ◌-◌, ◌<◌, ◌≤◌, Bool, true, false, cond, ◌&&◌, ◌||◌, eqb, ltb, ◌⊎◌, List, [], ◌∷◌, ◌++◌, length, Some, None, Ok, Err, Option, Result, sym, refl, ap, ◌∙◌, subst, ⊎_elim, append_assoc, append-nil, arith}
-use Rattle.std.specs.List.{remove, AllByRecursion as All}
+use Rattle.std.proofs.Common.{◌≡◌, ℕ, ◌+◌, ◌-◌, ◌<◌, ◌≤◌, Bool, true, false, cond, ◌&&◌, ◌||◌, eqb, ltb, List, [], ◌∷◌, ◌++◌, length, Some, None, Ok, Err, Option, Result, sym, refl, ap, ◌∙◌, subst, ⊎_elim, append_assoc, append-nil, arith}
+use Rattle.std.specs.List.{remove, AllByRecursion}
 use Rattle.std.proofs.ByRecursion.{All-push, All-weaker, All-take}
 use Rattle.std.proofs.lemmas.Bool.{cond_both, cond-true, cond-false, cases_eq, cases_lt, eqb-true, ne_eqb, ltb-true, and_parts}
 use Rattle.std.proofs.lemmas.Bool.Decides.{nat_tests}
@@ -154,11 +154,11 @@ Known a u = (any (λ (v : Step). eqb v.number u.number) a ≡ true) × (pick (λ
 known_push : (a : List Step) (t u : Step) → Known a u → Known (a ++ t ∷ []) u
 known_push a t u k = (any_push_old (λ (v : Step). eqb v.number u.number) t a k.0, pick_push_old (λ (v : Step). eqb v.number u.number) no_step t a k.0 ∙ k.1)
 
-low_none : (n k : ℕ) (a : List Step) → All (λ (u : Step). u.number ≤ n) a → n < k → any (λ (v : Step). eqb v.number k) a ≡ false
+low_none : (n k : ℕ) (a : List Step) → AllByRecursion (λ (u : Step). u.number ≤ n) a → n < k → any (λ (v : Step). eqb v.number k) a ≡ false
 low_none n k [] h l = refl
 low_none n k (u ∷ a) h l = let le = h.0 in grind (arith, low_none n k a h.1 l, nat_tests)
 
-known_new : (n : ℕ) (a : List Step) (t : Step) → All (λ (u : Step). u.number ≤ n) a → n < t.number → Known (a ++ t ∷ []) t
+known_new : (n : ℕ) (a : List Step) (t : Step) → AllByRecursion (λ (u : Step). u.number ≤ n) a → n < t.number → Known (a ++ t ∷ []) t
 known_new n a t h l = (any_push_new (λ (v : Step). eqb v.number t.number) t a (eqb_refl t.number), pick_push_new (λ (v : Step). eqb v.number t.number) no_step t a (low_none n t.number a h l) (eqb_refl t.number))
 
 -- the step in hand is one that was issued
@@ -182,8 +182,8 @@ Unsettled (Pending Finishing t) s rs = Unit {0}
 -- what the records have of an open saga
 pub record Lives (x : Saga) (s : ℕ) (rs : List Record) : Type 0 where
   pub sound : Sound x
-  pub known : All (Known (issued s rs)) x.standing
-  pub low : All (λ (u : Step). u.number ≤ x.last) (issued s rs)
+  pub known : AllByRecursion (Known (issued s rs)) x.standing
+  pub low : AllByRecursion (λ (u : Step). u.number ≤ x.last) (issued s rs)
   pub step : Steps x.phase (issued s rs)
   pub unsettled : Unsettled x.phase s rs
   pub out : is_open x.phase ≡ true → ended s rs ≡ closing x.phase
@@ -193,8 +193,8 @@ lives_other x s n e rs r y d h =
     let same = issued_other s n e d rs r y in
     record {
       sound = h.sound;
-      known = subst (λ (a : List Step). All (Known a) x.standing) (sym same) h.known;
-      low = subst (λ (a : List Step). All (λ (u : Step). u.number ≤ x.last) a) (sym same) h.low;
+      known = subst (λ (a : List Step). AllByRecursion (Known a) x.standing) (sym same) h.known;
+      low = subst (λ (a : List Step). AllByRecursion (λ (u : Step). u.number ≤ x.last) a) (sym same) h.low;
       step = subst (Steps x.phase) (sym same) h.step;
       unsettled = go x.phase h.unsettled;
       out = λ o. ended_other s n e d rs r y ∙ h.out o;
@@ -279,14 +279,14 @@ module _ (s : ℕ) (rs : List Record) (r : Record) where
   end_steps [] a = tt
   end_steps (t ∷ l) a = tt
 
-  known_rest : (a l : List Step) → All (Known a) l → All (Known a) (remove l 0)
+  known_rest : (a l : List Step) → AllByRecursion (Known a) l → AllByRecursion (Known a) (remove l 0)
   known_rest a [] h = tt
   known_rest a (u ∷ l) h = h.1
 
   -- the facts but soundness, from one list of issued steps to the same
   record Rest (x : Saga) : Type 0 where
-    known : All (Known (issued s rs)) x.standing
-    low : All (λ (u : Step). u.number ≤ x.last) (issued s rs)
+    known : AllByRecursion (Known (issued s rs)) x.standing
+    low : AllByRecursion (λ (u : Step). u.number ≤ x.last) (issued s rs)
     step : Steps x.phase (issued s rs)
     unsettled : Unsettled x.phase s grown
     out : is_open x.phase ≡ true → ended s grown ≡ closing x.phase
@@ -296,8 +296,8 @@ module _ (s : ℕ) (rs : List Record) (r : Record) where
       let same = sym (issued_same e y none) in
       record {
         sound = sound;
-        known = subst (λ (a : List Step). All (Known a) x.standing) same q.known;
-        low = subst (λ (a : List Step). All (λ (u : Step). u.number ≤ x.last) a) same q.low;
+        known = subst (λ (a : List Step). AllByRecursion (Known a) x.standing) same q.known;
+        low = subst (λ (a : List Step). AllByRecursion (λ (u : Step). u.number ≤ x.last) a) same q.low;
         step = subst (Steps x.phase) same q.step;
         unsettled = q.unsettled;
         out = q.out;
@@ -321,8 +321,8 @@ module _ (s : ℕ) (rs : List Record) (r : Record) where
         let more = sym (issued_step t y) in
         record {
           sound = sound_next b (of p) (Intent t) h v.sound;
-          known = subst (λ (a : List Step). All (Known a) l) more (All-weaker (Known (issued s rs)) (Known (issued s rs ++ t ∷ [])) (λ u k. known_push (issued s rs) t u k) l v.known);
-          low = subst (λ (a : List Step). All (λ (u : Step). u.number ≤ t.number) a) more (All-push (λ (u : Step). u.number ≤ t.number) (issued s rs) t (All-weaker (λ (u : Step). u.number ≤ k) (λ (u : Step). u.number ≤ t.number) (λ u le. omega (arith, is, le)) (issued s rs) v.low) (omega arith));
+          known = subst (λ (a : List Step). AllByRecursion (Known a) l) more (All-weaker (Known (issued s rs)) (Known (issued s rs ++ t ∷ [])) (λ u k. known_push (issued s rs) t u k) l v.known);
+          low = subst (λ (a : List Step). AllByRecursion (λ (u : Step). u.number ≤ t.number) a) more (All-push (λ (u : Step). u.number ≤ t.number) (issued s rs) t (All-weaker (λ (u : Step). u.number ≤ k) (λ (u : Step). u.number ≤ t.number) (λ u le. omega (arith, is, le)) (issued s rs) v.low) (omega arith));
           step = subst (λ (a : List Step). Known a t) more (known_new k (issued s rs) t v.low (omega (arith, is)));
           unsettled = none_more (Intent t) y (λ _ _. refl) none;
           out = λ _. ended_now (Intent t) false y (running_out p _ h v) refl;
@@ -359,10 +359,10 @@ module _ (s : ℕ) (rs : List Record) (r : Record) where
 -- the whole table
 pub record Good (rs : List Record) (t : Plain) : Type 0 where
   pub rising : Rising t.rows
-  pub below : All (λ (x : Bare). x.0.number ≤ t.top) t.rows
+  pub below : AllByRecursion (λ (x : Bare). x.0.number ≤ t.top) t.rows
   pub fresh : (s : ℕ) → t.top < s → (issued s rs ≡ []) × NoneSettled s rs × (ended s rs ≡ false)
   pub each : (s : ℕ) (x : Bare) → first (of_saga s) t.rows ≡ Some x → Lives x.0 s rs
-  pub opens : All (λ (x : Bare). is_open x.0.phase ≡ true) t.rows
+  pub opens : AllByRecursion (λ (x : Bare). is_open x.0.phase ≡ true) t.rows
 
 pub number_next : (x : Saga) (e : Event) → (next x e).number ≡ x.number
 number_next x Begin = refl
@@ -381,10 +381,10 @@ open_is : {X : Type 0} (b : Bool) (y z : X) → ◌≡◌ {A = Option X} (cond b
 open_is true y z e = cc
 open_is false y z e = let k : ◌≡◌ {A = ℕ} 0 1 = cc in absurd (omega arith)
 
-opens_placed : (s : ℕ) (y : Bare) (rows : List Bare) → All (λ (x : Bare). is_open x.0.phase ≡ true) rows → All (λ (x : Bare). is_open x.0.phase ≡ true) (placed s y rows)
+opens_placed : (s : ℕ) (y : Bare) (rows : List Bare) → AllByRecursion (λ (x : Bare). is_open x.0.phase ≡ true) rows → AllByRecursion (λ (x : Bare). is_open x.0.phase ≡ true) (placed s y rows)
 opens_placed s y rows h =
     let Open : Bare → Type 0 = λ x. is_open x.0.phase ≡ true in
-    cond_both (is_open y.0.phase) _ _ (λ (l : List Bare). All Open l) (λ o. all_put s y Open rows o h) (λ _. all_cut s y Open rows h)
+    cond_both (is_open y.0.phase) _ _ (λ (l : List Bare). AllByRecursion Open l) (λ o. all_put s y Open rows o h) (λ _. all_cut s y Open rows h)
 
 good_moves : (n s : ℕ) (e : Event) (t : Plain) (rs : List Record) (q : Record) → Says q s e → (x : Bare) → first (of_saga s) t.rows ≡ Some x → lawful n x.0 e ≡ true → Good rs t → Good (rs ++ q ∷ []) (sagas t.top (placed s (next x.0 e, x.1) t.rows))
 good_moves n s e t rs q said' x f l good =
@@ -412,8 +412,8 @@ good_moves n s e t rs q said' x f l good =
 good_begins : (s : ℕ) (t : Plain) (rs : List Record) (q : Record) → Says q s Begin → t.top < s → Good rs t → Good (rs ++ q ∷ []) (sagas s (t.rows ++ (begun s, tt) ∷ []))
 good_begins s t rs q said' more good =
     let y : Bare = (begun s, tt) in
-    let lower : All (λ (x : Bare). x.0.number < s) t.rows = All-weaker (λ (x : Bare). x.0.number ≤ t.top) (λ (x : Bare). x.0.number < s) (λ x h. omega (arith, h, more)) t.rows good.below in
-    let at_most : All (λ (x : Bare). x.0.number ≤ s) t.rows = All-weaker (λ (x : Bare). x.0.number ≤ t.top) (λ (x : Bare). x.0.number ≤ s) (λ x h. omega (arith, h, more)) t.rows good.below in
+    let lower : AllByRecursion (λ (x : Bare). x.0.number < s) t.rows = All-weaker (λ (x : Bare). x.0.number ≤ t.top) (λ (x : Bare). x.0.number < s) (λ x h. omega (arith, h, more)) t.rows good.below in
+    let at_most : AllByRecursion (λ (x : Bare). x.0.number ≤ s) t.rows = All-weaker (λ (x : Bare). x.0.number ≤ t.top) (λ (x : Bare). x.0.number ≤ s) (λ x h. omega (arith, h, more)) t.rows good.below in
     let old = good.fresh s more in
     record {
       rising = rising_push y t.rows lower good.rising;
@@ -428,7 +428,7 @@ good_begins s t rs q said' more good =
           let is : ◌≡◌ {A = Option Bare} (Some y) (Some z) = sym (push_own s y refl t.rows lower) ∙ g' in
           let same : y ≡ z = cc in
           let none : issued s (rs ++ q ∷ []) ≡ [] = issued_same s rs q Begin said' (λ _. refl) ∙ old.0 in
-          let new : Lives (begun s) s (rs ++ q ∷ []) = record { sound = sound_begun s; known = tt; low = subst (λ (a : List Step). All (λ (u : Step). u.number ≤ 0) a) (sym none) tt; step = tt; unsettled = none_more s rs q Begin said' (λ _ _. refl) old.1; out = λ _. ended_same s rs q Begin said' refl ∙ old.2 } in
+          let new : Lives (begun s) s (rs ++ q ∷ []) = record { sound = sound_begun s; known = tt; low = subst (λ (a : List Step). AllByRecursion (λ (u : Step). u.number ≤ 0) a) (sym none) tt; step = tt; unsettled = none_more s rs q Begin said' (λ _ _. refl) old.1; out = λ _. ended_same s rs q Begin said' refl ∙ old.2 } in
           subst (λ (k : ℕ). Lives z.0 k (rs ++ q ∷ [])) eq (subst (λ (u : Bare). Lives u.0 s (rs ++ q ∷ [])) same new))
           (λ (d : s ≡ r → ⊥). lives_other z.0 r s Begin rs q said' d (good.each r z (sym (push_other s r d y refl t.rows) ∙ g)))
           (cases_eq s r);

@@ -1,6 +1,6 @@
 -- The owed records have their places, whatever the moves; so no restart is refused.
 use Rattle.std.proofs.Common.{◌≡◌, ℕ, ◌+◌, ◌-◌, ◌≤◌, Bool, true, false, cond, ltb, List, [], ◌∷◌, ◌++◌, map, length, Some, Ok, Err, fold, sum_by, Option, Result, sym, refl, ap, ◌∙◌, subst, arith}
-use Rattle.std.specs.List.{AllByRecursion as All}
+use Rattle.std.specs.List.{AllByRecursion}
 use Rattle.std.proofs.lemmas.List.Sums.{sum_by-cons, sum_by_push}
 use Rattle.std.proofs.lemmas.List.{length-append}
 use Rattle.std.proofs.lemmas.Bool.{cond_both, ltb-false, ltb-true}
@@ -40,7 +40,7 @@ Plain = Sagas (Unit {0})
 
 -- a table whose owed records fit
 pub record Fine (t : Plain) (used capacity : ℕ) : Type 0 where
-  pub tidy : All (λ (x : Bare). Tidy x.0) t.rows
+  pub tidy : AllByRecursion (λ (x : Bare). Tidy x.0) t.rows
   pub room : used + owed t ≤ capacity
 
 fine_moves : (n s : ℕ) (e : Event) (t : Plain) (x : Bare) (k u c : ℕ) → first (of_saga s) t.rows ≡ Some x → lawful n x.0 e ≡ true → Cost x.0 e k → u + owed t + k ≤ c → Fine t u c → Fine (moves n s e t).1 (u + 1) c
@@ -59,7 +59,7 @@ fine_begins s t u c m free fine =
     let after : Fine (sagas s (t.rows ++ (begun s, tt) ∷ [])) (u + 1) c = record { tidy = push t.rows fine.tidy; room = omega (arith, sum, free) } in
     subst (λ (z : Bool × Plain). Fine z.1 (u + 1) c) (sym is) after
   where
-    push : (rows : List Bare) → All (λ (x : Bare). Tidy x.0) rows → All (λ (x : Bare). Tidy x.0) (rows ++ (begun s, tt) ∷ [])
+    push : (rows : List Bare) → AllByRecursion (λ (x : Bare). Tidy x.0) rows → AllByRecursion (λ (x : Bare). Tidy x.0) (rows ++ (begun s, tt) ∷ [])
     push [] h = (tt, tt)
     push (x ∷ rows) h = (h.0, push rows h.1)
 

@@ -1,6 +1,6 @@
 -- What the participants hold of one saga, beside what the journal shows of it.
-use Rattle.std.proofs.Common.{◌≡◌, ℕ, ◌+◌, ◌<◌, Bool, true, false, cond, eqb, ◌⊎◌, List, [], ◌∷◌, ◌++◌, sym, refl, subst, inl, inr, append-nil, arith}
-use Rattle.std.specs.List.{AllByRecursion as All}
+use Rattle.std.proofs.Common.{◌≡◌, ℕ, ◌<◌, Bool, true, false, cond, eqb, ◌⊎◌, List, [], ◌∷◌, ◌++◌, sym, refl, subst, inl, inr, append-nil, arith}
+use Rattle.std.specs.List.{AllByRecursion}
 use Rattle.std.proofs.lemmas.Bool.Decides.{nat_tests}
 use Rattle.std.proofs.lemmas.List.Elements.{filter-append}
 use Rattle.std.proofs.lemmas.Bool.{eq-eqb, ne_eqb, eqb-true}
@@ -29,9 +29,9 @@ In t (u ∷ l) = (t ≡ u) ⊎ In t l
 -- the numbers rise
 abbrev pub Apart : List Step → Type 0
 Apart [] = Unit {0}
-Apart (t ∷ l) = All (λ (u : Step). t.number < u.number) l × Apart l
+Apart (t ∷ l) = AllByRecursion (λ (u : Step). t.number < u.number) l × Apart l
 
-pub all_in : (P : Step → Type 0) (t : Step) (l : List Step) → All P l → In t l → P t
+pub all_in : (P : Step → Type 0) (t : Step) (l : List Step) → AllByRecursion P l → In t l → P t
 all_in P t [] a h = elim h [ ]
 all_in P t (u ∷ l) a (inl e) = subst P (sym e) a.0
 all_in P t (u ∷ l) a (inr h) = all_in P t l a.1 h
@@ -79,7 +79,7 @@ module _ (s : ℕ) where
     shown_cut_off t (u ∷ l) a (inl h) e = rw (← h) (grind (arith, ne_eqb p t.participant e, eqb_refl t.number))
     shown_cut_off t (u ∷ l) a (inr h) e = let less = all_in (λ (v : Step). u.number < v.number) t l a.0 h in grind (arith, shown_cut_off t l a.1 h e, nat_tests)
 
-    above_none : (k : ℕ) (l : List Step) → All (λ (u : Step). k < u.number) l → any (is_key (key s k)) (entries_at s p l) ≡ false
+    above_none : (k : ℕ) (l : List Step) → AllByRecursion (λ (u : Step). k < u.number) l → any (is_key (key s k)) (entries_at s p l) ≡ false
     above_none k [] h = refl
     above_none k (u ∷ l) h = let less = h.0 in grind (arith, above_none k l h.1, nat_tests)
 
@@ -89,7 +89,7 @@ module _ (s : ℕ) where
     shown_once t (u ∷ l) a = go (eqb u.number t.number) refl (shown_once t l a.1)
       where
         go : (b : Bool) → eqb u.number t.number ≡ b → any (is_key (key s t.number)) (entries_at s p (without t l)) ≡ false → any (is_key (key s t.number)) (entries_at s p (cond b l (u ∷ without t l))) ≡ false
-        go true e ih = let same = eqb-true u.number t.number e in above_none t.number l (subst (λ (n : ℕ). All (λ (v : Step). n < v.number) l) same a.0)
+        go true e ih = let same = eqb-true u.number t.number e in above_none t.number l (subst (λ (n : ℕ). AllByRecursion (λ (v : Step). n < v.number) l) same a.0)
         go false e ih = grind (arith, nat_tests)
 
   pub shown_any : (t : Step) (l : List Step) → In t l → any (is_key (key s t.number)) (entries_at s t.participant l) ≡ true
@@ -103,7 +103,7 @@ module _ (s : ℕ) where
   shown_pick t (u ∷ l) a (inr h) = let less = all_in (λ (v : Step). u.number < v.number) t l a.0 h in grind (arith, shown_pick t l a.1 h, nat_tests)
 
   -- a step not yet done is no entry
-  pub shown_fresh : (p : ℕ) (t : Step) (l : List Step) → All (λ (u : Step). u.number < t.number) l → any (is_key (key s t.number)) (entries_at s p l) ≡ false
+  pub shown_fresh : (p : ℕ) (t : Step) (l : List Step) → AllByRecursion (λ (u : Step). u.number < t.number) l → any (is_key (key s t.number)) (entries_at s p l) ≡ false
   shown_fresh p t [] h = refl
   shown_fresh p t (u ∷ l) h = let less = h.0 in grind (arith, shown_fresh p t l h.1, nat_tests)
 
@@ -112,6 +112,6 @@ module _ (s : ℕ) where
   shown_there t [] = grind (arith, eqb_refl s, eqb_refl t.number, eqb_refl t.participant)
   shown_there t (u ∷ l) = grind (arith, shown_there t l)
 
-  pub shown_itself : (t : Step) (d : Entry) (l : List Step) → All (λ (u : Step). u.number < t.number) l → pick (is_key (key s t.number)) d (entries_at s t.participant (l ++ t ∷ [])) ≡ entry s t
+  pub shown_itself : (t : Step) (d : Entry) (l : List Step) → AllByRecursion (λ (u : Step). u.number < t.number) l → pick (is_key (key s t.number)) d (entries_at s t.participant (l ++ t ∷ [])) ≡ entry s t
   shown_itself t d [] h = grind (arith, eqb_refl s, eqb_refl t.number, eqb_refl t.participant)
   shown_itself t d (u ∷ l) h = let less = h.0 in grind (arith, shown_itself t d l h.1, nat_tests)

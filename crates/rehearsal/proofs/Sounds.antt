@@ -1,6 +1,6 @@
 -- Lawful records keep a saga's standing steps in the order of their numbers, and its pending step where the law wants it.
 use Rattle.std.proofs.Common.{◌≡◌, ℕ, zero, suc, ◌+◌, ◌-◌, ◌<◌, ◌≤◌, Bool, true, false, eqb, ltb, ◌⊎◌, List, [], ◌∷◌, ◌++◌, length, take, Some, None, Option, sym, refl, ap, ◌∙◌, subst, inl, inr, ⊎_elim, arith, take_at}
-use Rattle.std.specs.List.{remove, slice_get, AllByRecursion as All}
+use Rattle.std.specs.List.{remove, slice_get, AllByRecursion}
 use Rattle.std.proofs.lemmas.List.{length-append}
 use Rattle.std.proofs.ByRecursion.{All-push, All-weaker, All-take}
 use Rattle.std.proofs.lemmas.Bool.{cond_both, cond-true, cond-false, eqb-true, ltb-false, ne_eqb, and_parts}
@@ -20,13 +20,13 @@ never h = let z : ◌≡◌ {A = ℕ} 0 1 = cc in absurd (omega arith)
 
 -- the numbers of standing steps, over the last that was issued
 abbrev pub Within : ℕ → List Step → Type 0
-Within n l = All (λ (u : Step). (0 < u.number) × (u.number ≤ n)) l
+Within n l = AllByRecursion (λ (u : Step). (0 < u.number) × (u.number ≤ n)) l
 
 -- the highest is undone next, and the lowest settled
 abbrev pub Waits : Phase → ℕ → List Step → Type 0
 Waits Running n l = Unit {0}
 Waits Closed n l = l ≡ []
-Waits (Pending Stepping t) n l = (t.number ≡ n) × All (λ (u : Step). u.number < t.number) l × (0 < t.number)
+Waits (Pending Stepping t) n l = (t.number ≡ n) × AllByRecursion (λ (u : Step). u.number < t.number) l × (0 < t.number)
 Waits (Pending (Retreating g d) t) n l = (d ≡ 0 → g ≡ 0) × ((front : List Step) × (l ≡ front ++ t ∷ []))
 Waits (Pending Finishing t) n l = (rest : List Step) × (l ≡ t ∷ rest)
 
@@ -68,7 +68,7 @@ nth_last front t =
 pub take_last : (front : List Step) (t : Step) → take (length (front ++ t ∷ []) - 1) (front ++ t ∷ []) ≡ front
 take_last front t = take_at front (t ∷ []) (length (front ++ t ∷ []) - 1) (omega (arith, length-append front (t ∷ [])))
 
-pub all_last : (P : Step → Type 0) (front : List Step) (t : Step) → All P (front ++ t ∷ []) → P t
+pub all_last : (P : Step → Type 0) (front : List Step) (t : Step) → AllByRecursion P (front ++ t ∷ []) → P t
 all_last P [] t h = h.0
 all_last P (u ∷ front) t h = all_last P front t h.1
 
@@ -86,7 +86,7 @@ without_last (u ∷ front) t a =
 pub without_first : (t : Step) (rest : List Step) → without t (t ∷ rest) ≡ rest
 without_first t rest = cond-true (eqb t.number t.number) _ _ (eqb_refl t.number)
 
-apart_push : (l : List Step) (t : Step) → Apart l → All (λ (u : Step). u.number < t.number) l → Apart (l ++ t ∷ [])
+apart_push : (l : List Step) (t : Step) → Apart l → AllByRecursion (λ (u : Step). u.number < t.number) l → Apart (l ++ t ∷ [])
 apart_push [] t a h = (tt, tt)
 apart_push (u ∷ l) t a h = (All-push (λ (v : Step). u.number < v.number) l t a.0 h.0, apart_push l t a.1 h.1)
 

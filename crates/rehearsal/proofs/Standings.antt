@@ -1,7 +1,7 @@
 -- After any moves the participants hold of each saga what the journal shows, save its pending step; and what settles took off is what it shows settled, save that step.
-use Rattle.std.proofs.Common.{◌≡◌, ℕ, ◌+◌, ◌-◌, ◌<◌, ◌≤◌, Bool, true, false, cond, eqb, ltb, ◌⊎◌, List, [], ◌∷◌, ◌++◌, map, length, Some, None, Ok, Err, fold, Option, Result, sym, refl, ap, ◌∙◌, subst, inl, inr, ⊎_elim, append_assoc, append-nil, arith}
+use Rattle.std.proofs.Common.{◌≡◌, ℕ, ◌-◌, ◌<◌, ◌≤◌, Bool, true, false, cond, eqb, ltb, List, [], ◌∷◌, ◌++◌, map, length, Some, None, Ok, Err, fold, Option, Result, sym, refl, ap, ◌∙◌, subst, inl, inr, ⊎_elim, append_assoc, append-nil, arith}
 use Rattle.std.specs.Option.{option_map}
-use Rattle.std.specs.List.{AllByRecursion as All}
+use Rattle.std.specs.List.{AllByRecursion}
 use Rattle.std.proofs.lemmas.Bool.{cond_both, cases_eq}
 use Rattle.bounded.specs.Firsts.{first}
 use Rattle.law.specs.declared.event.Outcome.{Outcome}
@@ -89,7 +89,7 @@ left_row : (s : ℕ) (h g : ℕ → List Entry) (z : Saga) (v : Memory) (o : Lis
 left_row s h g z v o blank sound f true e = subst (λ (m : Memory). One m s h g (Some z) o) (sym blank) (record { fits = inl (row_left s h g z o sound f true e); heard = tt })
 left_row s h g z v o blank sound f false e = record { fits = inl (row_left s h g z o sound f false e); heard = tt }
 
-all_unbare : (n : ℕ) (rows : List Row) → All (λ (y : Saga × Unit {0}). y.0.number ≤ n) (map row_bare rows) → (k : ℕ) → n < k → All (λ (y : Row). y.0.number < k) rows
+all_unbare : (n : ℕ) (rows : List Row) → AllByRecursion (λ (y : Saga × Unit {0}). y.0.number ≤ n) (map row_bare rows) → (k : ℕ) → n < k → AllByRecursion (λ (y : Row). y.0.number < k) rows
 all_unbare n [] h k l = tt
 all_unbare n (x ∷ rows) h k l = let le = h.0 in (omega (arith, le, l), all_unbare n rows h.1 k l)
 

@@ -1,4 +1,6 @@
 //! Any calls with any cuts, and what holds after them.
+#![tactic(auto)]
+
 ghost use Rattle.std.specs.Prelude.{◌≡◌, ◌+◌, ◌≤◌, length, fold};
 ghost use Rattle.runner.specs.Worlds.{world};
 ghost use Rattle.runner.specs.Calls.{unread_world};

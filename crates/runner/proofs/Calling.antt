@@ -1,7 +1,6 @@
 -- Each call keeps the table the law's reading.
-use Rattle.std.proofs.Common.{◌≡◌, ℕ, zero, suc, ◌+◌, ◌-◌, ◌<◌, ◌≤◌, min, Bool, true, false, cond, ◌&&◌, eqb, ltb, leb, List, [], ◌∷◌, ◌++◌, length, Some, None, Ok, Err, Option, Result, sym, refl, ap, ◌∙◌, arith}
-use Rattle.std.specs.List.{AllByRecursion as All}
-use Rattle.std.proofs.lemmas.Bool.{cond_both, cond-true, cond-false, eq-eqb, lt-ltb, le-leb, leb-true, leb-false, ltb-true, ltb-false, eqb-true, eqb-false}
+use Rattle.std.proofs.Common.{◌≡◌, ℕ, zero, suc, ◌+◌, ◌-◌, ◌<◌, ◌≤◌, min, true, false, ◌&&◌, eqb, ltb, leb, List, [], ◌∷◌, length, Some, Ok, Err, Result, sym, refl, ap, ◌∙◌, arith}
+use Rattle.std.proofs.lemmas.Bool.{cond_both, eq-eqb, lt-ltb, le-leb, leb-false, ltb-false, eqb-true, eqb-false}
 use Rattle.bounded.specs.Firsts.{first}
 use Rattle.law.specs.declared.event.Outcome.{Outcome}
 use Rattle.law.specs.declared.event.Outcome.TheVariants.{Done as WentWell, Refused as WentNot}
@@ -11,15 +10,13 @@ use Rattle.bank.specs.Banks.{count_of, change, change_at}
 use Rattle.law.specs.declared.event.Aim.{Aim}
 use Rattle.law.specs.declared.event.Aim.TheVariants.{Stepping, Retreating, Finishing}
 use Rattle.law.specs.declared.event.Step.{Step}
-use Rattle.law.specs.declared.event.Event.{Event}
-use Rattle.law.specs.declared.event.Event.TheVariants.{Begin, Intent, Done, Refused, Mark, Join, Back, Undone, Finish, Settled}
+use Rattle.law.specs.declared.event.Event.TheVariants.{Begin, Intent, Mark, Join, Back, Finish}
 use Rattle.law.specs.declared.event.Phase.{Phase}
 use Rattle.law.specs.declared.event.Phase.TheVariants.{Running, Pending, Closed}
 use Rattle.law.specs.declared.table.View.{View}
 use Rattle.law.specs.Law.{Saga, in_bank, lawful, if_stepping, if_retreating, if_finishing}
-use Rattle.law.specs.Sagas.{Sagas, sagas, of_saga, applied, moves, may_begin, reading, owed}
-use Rattle.law.specs.Bare.{bare}
-use Rattle.law.specs.Views.{view, view_of}
+use Rattle.law.specs.Sagas.{Sagas, sagas, of_saga, applied, moves, reading, owed}
+use Rattle.law.specs.Views.{view_of}
 use Rattle.law.proofs.Bares.{read_bare}
 use Rattle.runner.specs.declared.memory.Memory.{Memory}
 use Rattle.runner.specs.declared.memory.Memory.TheVariants.{Blank, Told}
@@ -29,10 +26,10 @@ use Rattle.runner.specs.declared.ticket.Stepped.TheVariants.{NotIssued}
 use Rattle.runner.specs.declared.ticket.Ended.TheVariants.{Spent}
 use Rattle.runner.specs.declared.ticket.Stepped.{Stepped}
 use Rattle.runner.specs.declared.ticket.Ended.{Ended}
-use Rattle.runner.specs.Worlds.{World, lacks, written, with_memory, on_saga}
-use Rattle.runner.specs.Calls.{begin_by, step_by, step_of, end_by, record_by, advance_by, asked_answer, asked_after, event_for, entry_of, key_of, with_parties, step_in, mark_in, join_in, back_in, finish_in, cancel_in, restart_by, started, restarted, opened, stepped, marked, joined, backed, finished, cancelled, advanced}
+use Rattle.runner.specs.Worlds.{World, lacks, written}
+use Rattle.runner.specs.Calls.{begin_by, step_by, step_of, end_by, record_by, advance_by, asked_answer, asked_after, event_for, entry_of, key_of, with_parties, step_in, mark_in, join_in, back_in, finish_in, cancel_in, restart_by, started, opened, stepped, marked, joined, backed, finished, cancelled, advanced}
 use Rattle.runner.specs.Mirrors.{Mirrors, Mirrored}
-use Rattle.runner.proofs.Mirroring.{Row, seen_row, by_keeps, lawful_moves, mirrors_written, mirrors_noted, mirrors_running, on_saga_keeps, on_open_keeps, running_keeps, on_running_keeps, runs}
+use Rattle.runner.proofs.Mirroring.{Row, seen_row, lawful_moves, mirrors_written, mirrors_noted, mirrors_running, on_saga_keeps, on_open_keeps, running_keeps, on_running_keeps, runs}
 
 -- of an answer and a world, that the world mirrors
 record In {A : Type 0} (y : A × World) : Type 0 where

@@ -1,20 +1,17 @@
 -- The table stays the law's reading: what each kind of change does to it.
-use Rattle.std.proofs.Common.{◌≡◌, ℕ, ◌+◌, ◌-◌, ◌<◌, ◌≤◌, min, Bool, true, false, cond, eqb, ltb, leb, List, [], ◌∷◌, ◌++◌, length, Some, None, Ok, Err, Option, Result, sym, refl, ap, ◌∙◌, subst, arith}
+use Rattle.std.proofs.Common.{◌≡◌, ℕ, Bool, true, false, cond, eqb, [], Some, None, Ok, Option, Result, sym, refl, ap, ◌∙◌, arith}
 use Rattle.std.specs.Option.{option_map}
-use Rattle.std.specs.List.{AllByRecursion as All}
-use Rattle.std.proofs.lemmas.Bool.{cond_both, cond-true, cond-false, eq-eqb, lt-ltb, le-leb, leb-true, leb-false, ltb-true, ltb-false, eqb-true, eqb-false}
+use Rattle.std.proofs.lemmas.Bool.{cond_both}
 use Rattle.bounded.specs.Firsts.{first}
-use Rattle.participants.specs.Party.{Party}
 use Rattle.bank.specs.Banks.{count_of}
 use Rattle.law.specs.declared.event.Event.{Event}
-use Rattle.record.specs.declared.Record.{Record}
 use Rattle.law.specs.declared.event.Phase.{Phase}
 use Rattle.law.specs.declared.event.Phase.TheVariants.{Running, Pending, Closed}
 use Rattle.law.specs.declared.table.View.{View}
 use Rattle.law.specs.Events.{event_of, record_of}
 use Rattle.law.proofs.Said.{reads_back}
-use Rattle.law.specs.Law.{Saga, begun, lawful, next, if_running as law_if_running}
-use Rattle.law.specs.Sagas.{Sagas, sagas, of_saga, applied, moves, moves_by, placed, taken, reading, read_from, noted}
+use Rattle.law.specs.Law.{Saga, lawful, next, if_running as law_if_running}
+use Rattle.law.specs.Sagas.{Sagas, sagas, of_saga, applied, moves, moves_by, placed, taken}
 use Rattle.law.specs.Bare.{bare}
 use Rattle.law.specs.Views.{view, view_of}
 use Rattle.law.proofs.Bares.{applied_bare, read_push, noted_bare}

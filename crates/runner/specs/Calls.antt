@@ -1,5 +1,5 @@
 -- What each call answers, and the world after it.
-use Rattle.std.specs.Prelude.{ℕ, ◌+◌, ◌-◌, ◌%◌, ◌^◌, Bool, true, false, cond, List, [], ◌∷◌, ◌++◌, length, Some, None, Ok, Err, Option, Result, ◌==◌, nat_le, nat_lt}
+use Rattle.std.specs.Prelude.{ℕ, ◌+◌, ◌-◌, ◌%◌, ◌^◌, Bool, true, false, cond, List, [], length, Some, None, Ok, Err, Option, Result, ◌==◌, nat_le, nat_lt}
 use Rattle.terms.specs.declared.Request.{Request}
 use Rattle.terms.specs.declared.Entry.{Entry}
 use Rattle.terms.specs.declared.Key.{Key}
@@ -23,7 +23,7 @@ use Rattle.law.specs.Views.{view}
 use Rattle.runner.specs.declared.memory.Memory.{Memory}
 use Rattle.runner.specs.declared.memory.Memory.TheVariants.{Blank, Told}
 use Rattle.runner.specs.declared.fault.RunnerFault.{RunnerFault}
-use Rattle.runner.specs.declared.fault.RunnerFault.TheVariants.{SagaNumber, NoParticipant, UnlawfulRecord, ShortOfPlaces, Unread, StillStepping, NoOpenSaga, NumberNotAbove, TooManyOpen, NoRoom, WrongPhase, LimitReached, WrongMarks}
+use Rattle.runner.specs.declared.fault.RunnerFault.TheVariants.{SagaNumber, NoParticipant, UnlawfulRecord, ShortOfPlaces, Unread, StillStepping, NumberNotAbove, TooManyOpen, NoRoom, WrongPhase, LimitReached, WrongMarks}
 use Rattle.runner.specs.declared.ticket.Ticket.{Ticket}
 use Rattle.runner.specs.declared.waiting.Waiting.{Waiting}
 use Rattle.runner.specs.declared.ticket.Stepped.{Stepped}
@@ -33,7 +33,7 @@ use Rattle.runner.specs.declared.ticket.Ended.TheVariants.{Closing, Spent, NotEn
 use Rattle.runner.specs.declared.waiting.Answered.{Answered}
 use Rattle.runner.specs.declared.waiting.Answered.TheVariants.{Answer as ToldOf, SlipSpent, NotYet}
 use Rattle.runner.specs.Slips.{ticket_of, slip_of, ready_of}
-use Rattle.runner.specs.Worlds.{World, lacks, written, by_view, on_open, on_running, on_saga, if_running, with_memory}
+use Rattle.runner.specs.Worlds.{World, lacks, written, on_open, on_running, on_saga, if_running, with_memory}
 
 -- a new runner has read nothing
 abbrev pub unread_world : List Record → ℕ → List Party → World

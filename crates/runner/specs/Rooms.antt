@@ -1,5 +1,5 @@
 -- How many places a saga of one step needs.
-use Rattle.std.specs.Prelude.{◌≡◌, ℕ, List, [], ◌∷◌, None, Ok, Err}
+use Rattle.std.specs.Prelude.{◌≡◌, ℕ, [], ◌∷◌, Err}
 use Rattle.terms.specs.declared.Request.{Request}
 use Rattle.participants.specs.Party.{Party}
 use Rattle.runner.specs.declared.fault.RunnerFault.TheVariants.{NoRoom}
@@ -7,7 +7,7 @@ use Rattle.runner.specs.declared.ticket.Ticket.{Ticket}
 use Rattle.runner.specs.declared.ticket.Stepped.TheVariants.{NotIssued}
 use Rattle.runner.specs.Slips.{ticket_of}
 use Rattle.runner.specs.Worlds.{World}
-use Rattle.runner.specs.Calls.{unread_world, restarted, opened, stepped, finished, advanced, phase_read}
+use Rattle.runner.specs.Calls.{unread_world, restarted, opened, stepped, finished, advanced}
 
 -- a bank of one participant and an empty journal of n places, read
 abbrev pub at_first : ℕ → Party → World

@@ -1,4 +1,6 @@
 //! Sagas run over a journal and a bank: every call makes at most one write, a record or a call to a participant.
+#![tactic(auto)]
+
 pub mod fault;
 pub mod memory;
 pub mod moves;

@@ -18,7 +18,7 @@ use law::table::Table;
 
 /// The law's reading of a journal: the table of its open sagas, or the index of the first record that is not lawful.
 fn read<J: JournalRead>(journal: &J, participants: u8) -> Result<Table<Memory>, usize>
-    ensures { table_read result ≡ reading participants Blank (records journal.now) }
+    ensures { table_read result ≡ reading participants Blank (J.JournalRead.records journal.now) }
 {
     let mut table = Table::new(Memory::Blank);
     let count = journal.count();

@@ -34,9 +34,9 @@ fn outcome(answer: Answer) -> Outcome
 
 /// The participant call that the law has next.
 pub(crate) fn ask<B: Bank>(bank: &mut B, saga: u32, aim: Aim, step: Step) -> Outcome
-    ensures answer { result ≡ asked_answer aim (parties bank.old) saga step }
-    ensures after { parties bank.new ≡ asked_after aim (parties bank.old) saga step }
-    ensures cost { writes bank.new ≤ writes bank.old + 1 }
+    ensures answer { result ≡ asked_answer aim (B.Bank.parties bank.old) saga step }
+    ensures after { B.Bank.parties bank.new ≡ asked_after aim (B.Bank.parties bank.old) saga step }
+    ensures cost { B.Bank.writes bank.new ≤ B.Bank.writes bank.old + 1 }
 {
     let key = Key {
         saga,

@@ -1,6 +1,5 @@
-use Rattle.std.proofs.Common.{◌≡◌, get_or, Ok, sym, ap, ◌∙◌}
+use Rattle.std.proofs.Common.{sym, ◌∙◌}
 use Rattle.std.proofs.lemmas.List.{drop_more}
-use Rattle.law.specs.Sagas.{Sagas, read_from}
 use Rattle.law.specs.Tables.{sagas_of}
 use Rattle.law.proofs.Kept.{readings}
 use Rattle.law.proofs.Readings.{read_more, read_stop, read_end}

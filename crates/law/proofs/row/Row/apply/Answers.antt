@@ -9,4 +9,4 @@ pub invariant_of-self-then-number-step : goal.invariant_of-self-then-number-step
 invariant_of-self-then-number-step c =
     let s = c.args.self.now in
     let p : s.phase ≡ Pending Stepping c.in-Pending-Stepping-default-Done.step = search rules in
-    (s.few, (stands_next s.phase c.in-Pending-Stepping-default-Done.step (held s.standing) (held c.push-in-Pending-Stepping-default-Done.new.self) s.last p c.push-in-Pending-Stepping-default-Done.ensures.after s.room, tt))
+    record { few = s.few; room = stands_next s.phase c.in-Pending-Stepping-default-Done.step (held s.standing) (held c.push-in-Pending-Stepping-default-Done.new.self) s.last p c.push-in-Pending-Stepping-default-Done.ensures.after s.room }

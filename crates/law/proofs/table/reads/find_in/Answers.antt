@@ -1,4 +1,4 @@
-use Rattle.std.proofs.Common.{◌≡◌, ◌≤◌, map, length, sym, ◌∙◌, arith}
+use Rattle.std.proofs.Common.{◌≤◌, map, length, sym, ◌∙◌}
 use lib.ListN.{length-map}
 use Rattle.bounded.proofs.Laws.{place_end}
 use Rattle.bounded.proofs.Mapped.{mapped_here, mapped_next}
