@@ -1,5 +1,7 @@
 //! Reads a script from standard input, takes its first saga through the bank of its site, notes it in a journal of 1,024
 //! slots, and prints what the journal says and every cell. A saga with a try is not taken yet.
+#![tactic(auto)]
+
 mod lines;
 mod saga;
 
@@ -13,6 +15,7 @@ use record::SLOT;
 use script::read;
 use site::site_bank::open;
 use std::io::Read;
+use std::process::ExitCode;
 use tokens::text::Fault;
 
 const SLOTS: usize = 1024;
@@ -32,15 +35,18 @@ fn run(rt: &HostRuntime, script: &Script) -> anyhow::Result<()> {
 }
 
 /// A refused text tells its fault and ends with status 1.
-fn main(rt: HostRuntime) -> anyhow::Result<()> {
+fn main(rt: HostRuntime) -> anyhow::Result<ExitCode> {
     let mut text = Vec::new(rt.alloc());
     rt.stdin().read_to_end(&mut text)?;
     match read(rt.alloc(), &text) {
-        Ok(script) => run(&rt, &script),
+        Ok(script) => {
+            run(&rt, &script)?;
+            Ok(ExitCode::SUCCESS)
+        }
         Err(Fault::At(cause, at)) => {
             let code = cause.code();
             println!(rt; "fault {code} at {at}")?;
-            Err(anyhow!("the text is refused"))
+            Ok(ExitCode::FAILURE)
         }
         Err(Fault::Memory) => Err(anyhow!("no memory")),
     }
