@@ -5,20 +5,23 @@ set -u
 root=$(cd "$(dirname "$0")/.." && pwd)
 dir=$(mktemp -d)
 trap 'rm -rf "$dir"' EXIT
-cp -r "$root/crates" "$root/crates.txt" "$dir/"
-[ -d "$root/target" ] && cp -r "$root/target" "$dir/"
+below='bounded terms record law journals participants bank runner'
 mkdir -p "$dir/crates/misuse/src"
-echo 'misuse: bounded terms record law journals participants bank runner' >> "$dir/crates.txt"
+for crate in $below; do
+    cp -r "$root/crates/$crate" "$dir/crates/"
+    grep "^$crate:" "$root/crates.txt" >> "$dir/crates.txt"
+done
+echo "misuse: $below" >> "$dir/crates.txt"
 
 order() {
     cat > "$dir/crates/misuse/src/lib.rt" <<CODE
 //! A slip used as a ticket.
+#![tactic(auto)]
+
 use bank::bank::Bank;
 use journals::traits::Journal;
 use runner::runner::Runner;
-use runner::ticket::Ended;
-use runner::ticket::Stepped;
-use runner::waiting::Answered;
+use runner::ticket::$1;
 use runner::waiting::Waiting;
 use terms::Request;
 
@@ -26,7 +29,7 @@ pub fn order<J: Journal, B: Bank>(runner: &mut Runner<J, B>, slip: Waiting, requ
     $2
 }
 CODE
-    (cd "$dir" && rt dev misuse) > "$dir/log" 2>&1
+    (cd "$dir/crates/misuse" && rt check) > "$dir/log" 2>&1
     grep -q 'mismatched-types\|expected.*Ticket' "$dir/log"
 }
 
