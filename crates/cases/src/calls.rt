@@ -25,9 +25,9 @@ mod tests {
     use bank::bank::Bank;
     use participants::answer::Answer;
     use participants::participant::Participant;
-    use site::site_bank::SiteBank;
     use site::example;
     use site::example::T7;
+    use site::site_bank::SiteBank;
     use std::test::Fail;
     use terms::{CLAIM, HANG, LIFT, RETURN};
 
