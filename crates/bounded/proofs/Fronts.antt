@@ -56,13 +56,13 @@ shift_more xs ys i k x le lt e =
     let n = k - i in
     let s = drop (i + 1) xs in
     let ln : n < length s = omega (arith, length-drop (i + 1) xs) in
-    let at-k : i + n ≡ k = omega arith in
+    let at_k : i + n ≡ k = omega arith in
     let rest : drop (i + n) ys ≡ drop (i + n) xs = ap (drop (i + n)) e ∙ drop-paste xs i s n (omega arith) (omega arith) in
     let far : i + n + 1 ≡ k + 1 = omega arith in
     let near : i + 1 + n ≡ k + 1 = omega arith in
     let read : get_or ys (k + 1) x ≡ get_or s n x = ap (λ j. get_or ys j x) (sym far) ∙ sym (get_or-drop (i + n) ys 1 x) ∙ ap (λ l. get_or l 1 x) rest ∙ get_or-drop (i + n) xs 1 x ∙ ap (λ j. get_or xs j x) (far ∙ sym near) ∙ sym (get_or-drop (i + 1) xs n x) in
     let next : n + 1 ≡ k + 1 - i = omega arith in
-    ap (set ys k) read ∙ ap (λ l. set l k (get_or s n x)) e ∙ ap (λ j. set (paste xs i s n) j (get_or s n x)) (sym at-k) ∙ paste_more xs i s n x (omega arith) ln ∙ ap (paste xs i s) next
+    ap (set ys k) read ∙ ap (λ l. set l k (get_or s n x)) e ∙ ap (λ j. set (paste xs i s n) j (get_or s n x)) (sym at_k) ∙ paste_more xs i s n x (omega arith) ln ∙ ap (paste xs i s) next
 
 pub shift_none : {T : Type 0} (xs : List T) (i : ℕ) → xs ≡ paste xs i (drop (i + 1) xs) (i - i)
 shift_none xs i = let z : i - i ≡ 0 = omega arith in paste_none xs i (drop (i + 1) xs) ∙ ap (paste xs i (drop (i + 1) xs)) (sym z)

@@ -101,8 +101,8 @@ module _ (w : World) (fine : FineIn w) where
       let n = count_of w.parties in
       let is = applied_bare n s Begin Blank w.table in
       let yes : (begins s Blank w.table).0 ≡ true = ap (λ (b : Bool). (cond {A = Bool × Sagas Memory} b (true, sagas s (w.table.rows ++ (begun s, Blank) ∷ [])) (false, w.table)).0) m in
-      let yes-bare : (begins s tt (bare w.table)).0 ≡ true = ap (λ (z : Bool × Plain). z.0) is ∙ yes in
-      let may : may_begin s (bare w.table) ≡ true = says (may_begin s (bare w.table)) yes-bare in
+      let yes_bare : (begins s tt (bare w.table)).0 ≡ true = ap (λ (z : Bool × Plain). z.0) is ∙ yes in
+      let may : may_begin s (bare w.table) ≡ true = says (may_begin s (bare w.table)) yes_bare in
       let opened = fine_begins s (bare w.table) (length w.records) w.capacity may (free_for 2 (omega arith) l) fine in
       subst (λ (u : ℕ). Fine (bare (applied n s Begin Blank w.table).1) u w.capacity) (sym (grown s Begin)) (subst (λ (z : Bool × Plain). Fine z.1 (length w.records + 1) w.capacity) is opened)
     where

@@ -36,7 +36,7 @@ world records capacity parties r = record { table = sagas_of r.table; ready = r.
 
 -- journal and bank together make at most one write, and the journal stays laid over the same memory
 abbrev pub OneWrite : {J B : Type 0} → (J → ℕ) → (J → ℕ) → (B → ℕ) → Runner J B → Runner J B → Type 0
-OneWrite journal-writes lender bank-writes r r' = (journal-writes r'.journal + bank-writes r'.bank ≤ journal-writes r.journal + bank-writes r.bank + 1) × (lender r'.journal ≡ lender r.journal)
+OneWrite journal_writes lender bank_writes r r' = (journal_writes r'.journal + bank_writes r'.bank ≤ journal_writes r.journal + bank_writes r.bank + 1) × (lender r'.journal ≡ lender r.journal)
 
 abbrev pub with_table : Sagas Memory → World → World
 with_table t w = record { table = t; ready = w.ready; restarts = w.restarts; records = w.records; capacity = w.capacity; parties = w.parties }
