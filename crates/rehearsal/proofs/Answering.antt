@@ -1,5 +1,5 @@
 -- An advance of a saga on its way out is not refused: its record has a place.
-use Rattle.std.proofs.Common.{◌≡◌, ℕ, ◌≤◌, Bool, true, false, cond, eqb, ◌⊎◌, List, [], ◌∷◌, map, length, Some, None, Ok, Err, fold, Option, Result, sym, refl, ap, ◌∙◌, subst, inl, inr, ⊎_elim, arith}
+use Rattle.std.proofs.Common.{◌≡◌, ℕ, ◌≤◌, Bool, true, false, cond, eqb, ◌⊎◌, List, [], ◌∷◌, map, length, Some, None, Ok, Err, fold, Option, Result, sym, refl, ap, ◌∙◌, subst, inl, inr, ⊎_elim, arith, is_ok, is_some}
 use Rattle.std.specs.Option.{option_map}
 use Rattle.std.proofs.lemmas.Bool.{eqb-true}
 use Rattle.bounded.specs.Firsts.{first}
@@ -24,7 +24,7 @@ use Rattle.runner.specs.Mirrors.{Mirrors}
 use Rattle.runner.proofs.Mirroring.{Row}
 use Rattle.runner.specs.declared.moves.Move.{Move}
 use Rattle.runner.specs.Acts.{act}
-use Rattle.rehearsal.specs.Shows.{is_ok, is_some, open_in, open_saga, ended}
+use Rattle.rehearsal.specs.Shows.{open_in, open_saga, ended}
 use Rattle.rehearsal.specs.Keeps.{Start, Answers}
 use Rattle.rehearsal.proofs.Costs.{Pends, Tidy, Bare, sum_cut}
 use Rattle.rehearsal.proofs.Mirrored.{unready, mirrors_moves}

@@ -1,6 +1,6 @@
 -- A saga that is cancelled or finished is open only while its completed advances are fewer than two for each step that stood, and one for each restart since.
 -- What counts down: twice the standing steps, less one while an answer is remembered, less one while the journal is not read.
-use Rattle.std.proofs.Common.{◌≡◌, ℕ, ◌+◌, ◌-◌, ◌*◌, ◌<◌, ◌≤◌, Bool, true, false, cond, ◌&&◌, eqb, ltb, ◌⊎◌, List, [], ◌∷◌, length, take, Some, None, Ok, Err, fold, Option, Result, sym, refl, ap, ◌∙◌, subst, inl, inr, ⊎_elim, arith}
+use Rattle.std.proofs.Common.{◌≡◌, ℕ, ◌+◌, ◌-◌, ◌*◌, ◌<◌, ◌≤◌, Bool, true, false, cond, ◌&&◌, eqb, ltb, ◌⊎◌, List, [], ◌∷◌, length, take, Some, None, Ok, Err, fold, Option, Result, sym, refl, ap, ◌∙◌, subst, inl, inr, ⊎_elim, arith, is_ok, is_some}
 use Rattle.std.specs.List.{remove}
 use Rattle.std.specs.Option.{option_map}
 use Rattle.std.proofs.lemmas.List.{length-append}
@@ -37,7 +37,7 @@ use Rattle.runner.specs.declared.moves.Reach.{Reach}
 use Rattle.runner.specs.declared.moves.Reach.TheVariants.{Made, CutBefore, CutAfter}
 use Rattle.runner.specs.declared.moves.Move.{Move}
 use Rattle.runner.specs.Acts.{called, lost, act_by, act}
-use Rattle.rehearsal.specs.Shows.{is_ok, is_some, open_saga, standing_of}
+use Rattle.rehearsal.specs.Shows.{open_saga, standing_of}
 use Rattle.rehearsal.specs.Keeps.{Start, Closing, completes, completed, makes_restart, is_restart, restarts_in}
 use Rattle.rehearsal.proofs.Costs.{Bare, Pends, Tidy, told_same}
 use Rattle.rehearsal.proofs.Looks.{note_other, note_own, re_noted, push_other, first_number, all_of, re_noted_open}

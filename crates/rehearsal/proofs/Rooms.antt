@@ -1,5 +1,5 @@
 -- The owed records have their places, whatever the moves; so no restart is refused.
-use Rattle.std.proofs.Common.{◌≡◌, ℕ, ◌+◌, ◌-◌, ◌≤◌, Bool, true, false, cond, ltb, List, [], ◌∷◌, ◌++◌, map, length, Some, Ok, Err, fold, sum_by, Option, Result, sym, refl, ap, ◌∙◌, subst, arith}
+use Rattle.std.proofs.Common.{◌≡◌, ℕ, ◌+◌, ◌-◌, ◌≤◌, Bool, true, false, cond, ltb, List, [], ◌∷◌, ◌++◌, map, length, Some, Ok, Err, fold, sum_by, Option, Result, sym, refl, ap, ◌∙◌, subst, arith, is_ok}
 use Rattle.std.specs.List.{AllByRecursion}
 use Rattle.std.proofs.lemmas.List.Sums.{sum_by-cons, sum_by_push}
 use Rattle.std.proofs.lemmas.List.{length-append}
@@ -28,7 +28,6 @@ use Rattle.runner.specs.declared.moves.Reach.{Reach}
 use Rattle.runner.specs.declared.moves.Reach.TheVariants.{Made, CutBefore, CutAfter}
 use Rattle.runner.specs.declared.moves.Move.{Move}
 use Rattle.runner.specs.Acts.{called, lost, act_by, act}
-use Rattle.rehearsal.specs.Shows.{is_ok}
 use Rattle.rehearsal.specs.Keeps.{Start, Restarts}
 use Rattle.rehearsal.proofs.Costs.{Tidy, Cost, Bare, step_cost, mark_cost, join_cost, back_cost, cancel_cost, finish_cost, told_cost, sum_placed, all_placed, told_same}
 use Rattle.rehearsal.proofs.Mirrored.{unready, mirrors_called, mirrors_act}

@@ -1,5 +1,5 @@
 -- What holds after any moves, from an empty journal and participants at which nothing stands.
-use Rattle.std.specs.Prelude.{◌≡◌, ℕ, ◌+◌, ◌*◌, ◌<◌, Bool, true, false, cond, ◌&&◌, ◌⊎◌, List, [], ◌∷◌, ◌++◌, map, length, Some, fold, count_by, filter, ◌==◌, nat_eq}
+use Rattle.std.specs.Prelude.{◌≡◌, ℕ, ◌+◌, ◌*◌, ◌<◌, Bool, true, false, cond, ◌&&◌, ◌⊎◌, List, [], ◌∷◌, ◌++◌, map, length, Some, fold, count_by, filter, ◌==◌, nat_eq, is_some, is_ok}
 use Rattle.bounded.specs.Firsts.{any, pick}
 use Rattle.terms.specs.declared.Entry.{Entry}
 use Rattle.participants.specs.Effects.{taken, given}
@@ -19,7 +19,7 @@ use Rattle.runner.specs.declared.moves.Reach.{Reach}
 use Rattle.runner.specs.declared.moves.Reach.TheVariants.{Made, CutBefore, CutAfter}
 use Rattle.runner.specs.declared.moves.Move.{Move}
 use Rattle.runner.specs.Acts.{act}
-use Rattle.rehearsal.specs.Shows.{open_sagas, open_saga, is_some, is_ok, standing_of, performed_of, ended, mine, entries_at, Holds, settled_steps}
+use Rattle.rehearsal.specs.Shows.{open_sagas, open_saga, standing_of, performed_of, ended, mine, entries_at, Holds, settled_steps}
 
 pub record Start (w : World) : Type 0 where
   pub empty : w.records ≡ []

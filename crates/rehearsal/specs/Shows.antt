@@ -1,5 +1,5 @@
 -- What the journal shows by the law, and what the participants hold.
-use Rattle.std.specs.Prelude.{◌≡◌, ℕ, Bool, true, false, cond, ◌&&◌, ◌||◌, List, [], ◌∷◌, ◌++◌, map, Some, None, Ok, Err, filter, Option, Result, ◌==◌, nat_eq}
+use Rattle.std.specs.Prelude.{◌≡◌, ℕ, Bool, false, cond, ◌&&◌, ◌||◌, List, [], ◌∷◌, ◌++◌, map, Some, None, Ok, Err, filter, Option, Result, ◌==◌, nat_eq}
 use Rattle.bounded.specs.Firsts.{pick, cut, first}
 use Rattle.terms.specs.declared.Entry.{Entry}
 use Rattle.participants.specs.Party.{Party}
@@ -27,14 +27,6 @@ open_sagas w = open_in (reading (count_of w.parties) tt w.records)
 
 abbrev pub open_saga : ℕ → World → Option Saga
 open_saga s w = first (λ (x : Saga). nat_eq x.number s) (open_sagas w)
-
-abbrev pub is_some : {X : Type 0} → Option X → Bool
-is_some None = false
-is_some (Some x) = true
-
-abbrev pub is_ok : {X Y : Type 0} → Result X Y → Bool
-is_ok (Ok x) = true
-is_ok (Err y) = false
 
 -- the steps that stand of a saga, none where it is not open
 abbrev pub standing_of : Option Saga → List Step
