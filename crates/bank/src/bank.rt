@@ -20,6 +20,7 @@ pub trait Bank {
         ensures after { parties self.new ≡ change_at (parties self.old) participant (λ p. do_after p entry) }
         ensures cost { writes self.new ≤ writes self.old + 1 };
 
+    // A bool, as `HashSet::remove` gives, here and in settle: whether the key stood.
     fn undo(&mut self, participant: u8, key: Key) -> bool
         ensures answer { result ≡ stands (party_at (parties self.old) participant) key }
         ensures after { parties self.new ≡ change_at (parties self.old) participant (λ p. undo_after p key) }

@@ -27,8 +27,9 @@ impl Bank for NoParticipants {
 
     ghost orderly = { Prim.search rules };
 
+    #[tactic(auto, unfolding(participants::specs::Party::do_answer))]
     fn perform(&mut self, _participant: u8, _entry: Entry) -> Answer {
-        Answer::Refused(Refusal::Unfit)
+        Err(Refusal::Unfit)
     }
 
     fn undo(&mut self, _participant: u8, _key: Key) -> bool {
@@ -52,6 +53,7 @@ impl Bank for NoParticipants {
     }
 }
 
+// Five matches on the index and no shared one: a form that takes a closure for each arm is as long, and needs a contract besides.
 impl<P: Participant, B: Bank> Bank for With<P, B> {
     ghost parties = { λ w. P.Participant.means w.first ∷ B.Bank.parties w.rest };
 
@@ -63,7 +65,7 @@ impl<P: Participant, B: Bank> Bank for With<P, B> {
 
     fn perform(&mut self, participant: u8, entry: Entry) -> Answer {
         match participant {
-            0 => Answer::Refused(Refusal::Unfit),
+            0 => Err(Refusal::Unfit),
             1 => self.first.perform(entry),
             _ => self.rest.perform(participant - 1, entry),
         }

@@ -1,9 +1,9 @@
-//! Every promise is by `held`, the list that stands in the array. An index past its end answers `None` or false, and nothing changes.
-ghost use Rattle.std.specs.Prelude.{◌≡◌, ℕ, ◌+◌, ◌-◌, ◌<◌, ◌≤◌, List, [], ◌∷◌, ◌++◌, length, take, ◌==◌, nat_le, nat_lt, slice_set};
+//! Every promise is by `held`, the list that stands in the array. An index past its end answers `None`, and nothing changes.
+ghost use Rattle.std.specs.Prelude.{◌≡◌, ℕ, ◌+◌, ◌-◌, ◌<◌, ◌≤◌, List, [], ◌∷◌, ◌++◌, length, take, is_ok, ◌==◌, nat_le, nat_lt, slice_set};
 ghost use Rattle.std.specs.List.{slice_get, remove};
 ghost use Rattle.bounded.specs.Held.{held, push_after, pop_after};
 
-use crate::Bounded;
+use crate::{Bounded, Full};
 
 impl<T: Copy, const N: usize> Bounded<T, N> {
     /// The empty list; `fill` stands in the places that no item has taken.
@@ -54,24 +54,20 @@ impl<T: Copy, const N: usize> Bounded<T, N> {
     pub fn get(&self, i: usize) -> Option<T>
         ensures { result ≡ slice_get (held self.now) i }
     {
-        if self.has(i) {
-            Some(self.items[i])
-        } else {
-            None
-        }
+        self.as_slice().get(i).copied()
     }
 
-    /// Puts an item at the end; false where the list is full.
-    pub fn push(&mut self, x: T) -> bool
-        ensures answer { result ≡ nat_lt (length (held self.old)) N }
+    /// Puts an item at the end, if there is room.
+    pub fn push(&mut self, x: T) -> Result<(), Full>
+        ensures answer { is_ok result ≡ nat_lt (length (held self.old)) N }
         ensures after { held self.new ≡ push_after N (held self.old) x }
     {
         if self.is_full() {
-            return false;
+            return Err(Full);
         }
         self.items[self.len] = x;
         self.len += 1;
-        true
+        Ok(())
     }
 
     /// Takes the last item.
@@ -87,6 +83,7 @@ impl<T: Copy, const N: usize> Bounded<T, N> {
     }
 
     /// Takes out the item at i; those after it keep their order.
+    #[tactic(auto, using(crate::proofs::Fronts::front_rotated))]
     pub fn remove(&mut self, i: usize) -> Option<T>
         ensures answer { result ≡ slice_get (held self.old) i }
         ensures after { held self.new ≡ remove (held self.old) i }
@@ -95,31 +92,30 @@ impl<T: Copy, const N: usize> Bounded<T, N> {
             return None;
         }
         let x = self.items[i];
+        let all = &mut self.items[..];
+        all[i..self.len].rotate_left(1);
         self.len -= 1;
-        for k in i..self.len {
-            self.items[k] = self.items[k + 1];
-        }
         Some(x)
     }
 
-    /// Puts another item in the place of the one at i; false where there is none.
-    pub fn set(&mut self, i: usize, x: T) -> bool
-        ensures answer { result ≡ nat_lt i (length (held self.old)) }
+    /// Puts another item in the place of the one at i, which it gives.
+    #[tactic(auto, using(crate::proofs::Fronts::front_set))]
+    pub fn set(&mut self, i: usize, x: T) -> Option<T>
+        ensures answer { result ≡ slice_get (held self.old) i }
         ensures after { held self.new ≡ slice_set (held self.old) i x }
     {
         if !self.has(i) {
-            return false;
+            return None;
         }
+        let old = self.items[i];
         self.items[i] = x;
-        true
+        Some(old)
     }
 
     /// Keeps the first n.
     pub fn truncate(&mut self, n: usize)
         ensures { held self.new ≡ take n (held self.old) }
     {
-        if self.has(n) {
-            self.len = n;
-        }
+        self.len = self.len.min(n);
     }
 }

@@ -4,6 +4,7 @@ ghost use Rattle.cases.specs.Asked.{asked};
 
 use terms::{Entry, Key, Request};
 
+// A number for the verb, as a request has it.
 /// The step of a saga that asks for a verb, an amount and a cell.
 pub fn ask(saga: u32, step: u8, verb: u8, amount: u32, cell: u64) -> Entry
     ensures { result ≡ asked saga step verb amount cell }
@@ -23,41 +24,49 @@ pub fn ask(saga: u32, step: u8, verb: u8, amount: u32, cell: u64) -> Entry
 mod tests {
     use super::*;
     use bank::bank::Bank;
-    use participants::answer::Answer;
+    use participants::answer::{Accepted, Answer};
     use participants::participant::Participant;
     use site::example;
     use site::example::T7;
     use site::site_bank::SiteBank;
     use std::test::Fail;
-    use terms::{CLAIM, HANG, LIFT, RETURN};
+    use terms::{Refusal, Verb};
 
-    // 0 for done, 1 for already, else the number of the refusal.
-    fn told(answer: Answer) -> u16 {
-        match answer {
-            Answer::Done => 0,
-            Answer::Already => 1,
-            Answer::Refused(refusal) => refusal.code(),
-        }
+    fn asks(saga: u32, step: u8, verb: Verb, amount: u32, cell: u64) -> Entry {
+        ask(saga, step, u8::from(verb), amount, cell)
     }
 
+    const DONE: Answer = Ok(Accepted::Done);
+
+    const ALREADY: Answer = Ok(Accepted::Already);
+
     fn site() -> Result<SiteBank, Fail> {
-        match example::site() {
-            Ok(bank) => Ok(bank),
-            Err(_) => Err(Fail::new("no site")),
-        }
+        example::site().map_err(|_| Fail::new("no site"))
     }
 
     #[test]
     fn claims_and_returns(rt: HostRuntime) -> Result<(), Fail> {
         let mut bank = site()?;
-        assert_eq!(rt; told(bank.perform(1, ask(5, 1, CLAIM, 4, 1))), 43);
-        assert_eq!(rt; told(bank.perform(1, ask(5, 1, RETURN, 2, 1))), 44);
-        assert_eq!(rt; told(bank.perform(1, ask(5, 1, CLAIM, 3, 1))), 0);
+        assert_eq!(rt;
+            bank.perform(1, asks(5, 1, Verb::Claim, 4, 1)),
+            Err(Refusal::Short)
+        );
+        assert_eq!(rt;
+            bank.perform(1, asks(5, 1, Verb::Return, 2, 1)),
+            Err(Refusal::Above)
+        );
+        assert_eq!(rt; bank.perform(1, asks(5, 1, Verb::Claim, 3, 1)), DONE);
         assert_eq!(rt; bank.value(1, 1), Some(0));
-        assert_eq!(rt; told(bank.perform(1, ask(5, 1, CLAIM, 3, 1))), 1);
-        assert_eq!(rt; told(bank.perform(1, ask(5, 1, CLAIM, 2, 1))), 41);
-        assert_eq!(rt; told(bank.perform(1, ask(6, 1, RETURN, 2, 1))), 44);
-        assert_eq!(rt; told(bank.perform(1, ask(6, 1, RETURN, 1, 1))), 0);
+        assert_eq!(rt; bank.perform(1, asks(5, 1, Verb::Claim, 3, 1)), ALREADY);
+        assert_eq!(rt;
+            bank.perform(1, asks(5, 1, Verb::Claim, 2, 1)),
+            Err(Refusal::OtherRequest)
+        );
+        assert_eq!(rt;
+            bank.perform(1, asks(6, 1, Verb::Return, 2, 1)),
+            Err(Refusal::Above)
+        );
+        assert_eq!(rt; bank.perform(1, asks(6, 1, Verb::Return, 1, 1)), DONE);
         Ok(())
     }
 
@@ -65,7 +74,7 @@ mod tests {
     fn undone_once(rt: HostRuntime) -> Result<(), Fail> {
         let mut bank = site()?;
         let key = Key { saga: 5, step: 1 };
-        assert_eq!(rt; told(bank.perform(1, ask(5, 1, CLAIM, 3, 1))), 0);
+        assert_eq!(rt; bank.perform(1, asks(5, 1, Verb::Claim, 3, 1)), DONE);
         assert_eq!(rt; bank.undo(1, key), true);
         assert_eq!(rt; bank.undo(1, key), false);
         assert_eq!(rt; bank.value(1, 1), Some(3));
@@ -76,7 +85,7 @@ mod tests {
     fn settled_once(rt: HostRuntime) -> Result<(), Fail> {
         let mut bank = site()?;
         let key = Key { saga: 5, step: 1 };
-        assert_eq!(rt; told(bank.perform(1, ask(5, 1, RETURN, 1, 1))), 0);
+        assert_eq!(rt; bank.perform(1, asks(5, 1, Verb::Return, 1, 1)), DONE);
         assert_eq!(rt; bank.value(1, 1), Some(3));
         assert_eq!(rt; bank.settle(1, key), true);
         assert_eq!(rt; bank.settle(1, key), false);
@@ -87,10 +96,19 @@ mod tests {
     #[test]
     fn a_tag_hangs_once(rt: HostRuntime) -> Result<(), Fail> {
         let mut bank = site()?;
-        assert_eq!(rt; told(bank.perform(3, ask(5, 1, HANG, 1, T7))), 0);
-        assert_eq!(rt; told(bank.perform(3, ask(5, 2, LIFT, 1, T7))), 44);
-        assert_eq!(rt; told(bank.perform(3, ask(6, 1, HANG, 1, T7))), 43);
-        assert_eq!(rt; told(bank.perform(4, ask(6, 1, HANG, 1, T7))), 40);
+        assert_eq!(rt; bank.perform(3, asks(5, 1, Verb::Hang, 1, T7)), DONE);
+        assert_eq!(rt;
+            bank.perform(3, asks(5, 2, Verb::Lift, 1, T7)),
+            Err(Refusal::Above)
+        );
+        assert_eq!(rt;
+            bank.perform(3, asks(6, 1, Verb::Hang, 1, T7)),
+            Err(Refusal::Short)
+        );
+        assert_eq!(rt;
+            bank.perform(4, asks(6, 1, Verb::Hang, 1, T7)),
+            Err(Refusal::Unfit)
+        );
         assert_eq!(rt; bank.stands(3, Key { saga: 5, step: 1 }), true);
         Ok(())
     }

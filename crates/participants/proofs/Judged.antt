@@ -1,45 +1,43 @@
 -- What an answer of `do` says.
-use Rattle.std.proofs.Common.{◌≡◌, ℕ, ◌<◌, Bool, true, false, cond, not, leb, List, length, get_or, Some, None, refl, ap, ◌∙◌, arith}
-use Rattle.std.proofs.lemmas.List.{get_or_default}
+use Rattle.std.proofs.Common.{◌≡◌, ℕ, ◌<◌, Bool, true, false, cond, not, leb, List, [], ◌∷◌, length, Some, None, Ok, Err, refl, ap, ◌∙◌, arith}
 use Rattle.std.proofs.lemmas.Bool.{leb-false}
-use Rattle.bounded.specs.Firsts.{any, pick, place}
-use Rattle.bounded.proofs.Laws.{found, place_none}
+use Rattle.bounded.specs.Firsts.{any, pick, first}
 use Rattle.terms.specs.declared.Entry.{Entry}
 use Rattle.participants.specs.declared.cell.Cell.{Cell}
-use Rattle.participants.specs.declared.answer.Answer.TheVariants.{Done, Already, Refused}
+use Rattle.participants.specs.declared.answer.Accepted.TheVariants.{Done, Already}
 use Rattle.terms.specs.declared.Refusal.TheVariants.{Unfit, OtherRequest, Full, Short, Above}
 use Rattle.participants.specs.Effects.{fitting}
 use Rattle.participants.specs.Party.{Party, is_key, same_request, short, above, new_answer, do_answer}
 
-module _ (verbs : List ℕ) (cells : List Cell) (es : List Entry) (e : Entry) where
-  pub standing_judged : (d : Entry) (i : ℕ) → place (is_key e.key) es ≡ Some i → (b : Bool) → b ≡ same_request (get_or es i d).request e.request → cond b Already (Refused OtherRequest) ≡ do_answer (record { verbs = verbs; cells = cells; entries = es }) e
-  unfolding do_answer
-  standing_judged d i h b same =
-      let f = found (is_key e.key) i es h in
-      let r : get_or es i d ≡ pick (is_key e.key) e es = get_or_default es i d e f.within ∙ f.read e in
-      rw f.there (ap (λ t. cond t Already (Refused OtherRequest)) (same ∙ ap (λ (x : Entry). same_request x.request e.request) r))
+-- the first that passes is the one picked
+first_some : {X : Type 0} (p : X → Bool) (d s : X) (xs : List X) → first p xs ≡ Some s → (any p xs ≡ true) × (pick p d xs ≡ s)
+first_some p d s [] h = grind arith
+first_some p d s (x ∷ xs) h = let i = first_some p d s xs in grind arith
 
-  pub new_judged : place (is_key e.key) es ≡ None → new_answer verbs cells es e.request ≡ do_answer (record { verbs = verbs; cells = cells; entries = es }) e
-  unfolding do_answer
-  new_judged h = rw (place_none (is_key e.key) 0 es h) refl
+first_gone : {X : Type 0} (p : X → Bool) (xs : List X) → first p xs ≡ None → any p xs ≡ false
+first_gone p [] h = refl
+first_gone p (x ∷ xs) h = let i = first_gone p xs in grind arith
 
-chain : (k s n f h o : Bool) → Done ≡ cond k (cond s Already (Refused OtherRequest)) (cond n (Refused Unfit) (cond f (Refused Full) (cond h (Refused Short) (cond o (Refused Above) Done)))) → (k ≡ false) × (f ≡ false) × (h ≡ false) × (o ≡ false)
-chain true true n f h o e = absurd (let z : ◌≡◌ {A = ℕ} 0 1 = cc in omega arith)
-chain true false n f h o e = absurd (let z : ◌≡◌ {A = ℕ} 0 1 = cc in omega arith)
-chain false s true f h o e = absurd (let z : ◌≡◌ {A = ℕ} 0 1 = cc in omega arith)
-chain false s false true h o e = absurd (let z : ◌≡◌ {A = ℕ} 0 1 = cc in omega arith)
-chain false s false false true o e = absurd (let z : ◌≡◌ {A = ℕ} 0 1 = cc in omega arith)
-chain false s false false false true e = absurd (let z : ◌≡◌ {A = ℕ} 0 1 = cc in omega arith)
-chain false s false false false false e = (refl, refl, refl, refl)
+module _ (p : Party) (e : Entry) where
+  pub standing_judged : (s : Entry) → first (is_key e.key) p.entries ≡ Some s → do_answer p e ≡ cond (same_request s.request e.request) (Ok Already) (Err OtherRequest)
+  unfolding do_answer
+  standing_judged s h = let f = first_some (is_key e.key) e s p.entries h in rw (f.0, f.1) refl
+
+  pub new_judged : first (is_key e.key) p.entries ≡ None → do_answer p e ≡ new_answer p.verbs p.cells p.entries e.request
+  unfolding do_answer
+  new_judged h = rw (first_gone (is_key e.key) p.entries h) refl
+
+chain : (k s n f h o : Bool) → Ok Done ≡ cond k (cond s (Ok Already) (Err OtherRequest)) (cond n (Err Unfit) (cond f (Err Full) (cond h (Err Short) (cond o (Err Above) (Ok Done))))) → (k ≡ false) × (f ≡ false) × (h ≡ false) × (o ≡ false)
+chain k s n f h o e = grind arith
 
 -- what an accepted request has behind it
-pub record Accepted (cells : List Cell) (es : List Entry) (e : Entry) : Type 0 where
+pub record Admitted (cells : List Cell) (es : List Entry) (e : Entry) : Type 0 where
   pub fresh : any (is_key e.key) es ≡ false
   pub room : length es < 64
   pub covered : any (short e.request) cells ≡ false
   pub below : any (above es e.request) cells ≡ false
 
-pub accepts : (p : Party) (e : Entry) → Done ≡ do_answer p e → Accepted p.cells p.entries e
+pub accepts : (p : Party) (e : Entry) → Ok Done ≡ do_answer p e → Admitted p.cells p.entries e
 unfolding do_answer
 accepts p e h =
     let r = chain (any (is_key e.key) p.entries) (same_request (pick (is_key e.key) e p.entries).request e.request) (not (fitting p.verbs p.cells e.request)) (leb 64 (length p.entries)) (any (short e.request) p.cells) (any (above p.entries e.request) p.cells) h in

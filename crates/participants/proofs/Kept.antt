@@ -1,22 +1,22 @@
 -- What the calls of a book leave, from what its parts leave.
-use Rattle.std.proofs.Common.{◌≡◌, ℕ, true, false, List, [], ◌∷◌, ◌++◌, map, is_some, Some, None, Option, sym, refl, ap, ◌∙◌, subst}
+use Rattle.std.proofs.Common.{◌≡◌, ℕ, Bool, true, false, List, [], ◌∷◌, ◌++◌, map, is_some, Some, None, Option, Ok, sym, refl, ap, ◌∙◌, subst, arith}
 use Rattle.std.specs.List.{slice_get, remove}
 use Rattle.std.proofs.lemmas.Option.{slice_get-get_or}
 use Rattle.std.proofs.lemmas.Bool.{lt-ltb, cond-true, cond-false}
 use Rattle.bounded.specs.Held.{push_after}
-use Rattle.bounded.specs.Firsts.{any, pick, place, cut}
+use Rattle.bounded.specs.Firsts.{any, pick, place, cut, first}
 use Rattle.bounded.proofs.Laws.{found, place_none}
 use Rattle.terms.specs.declared.Key.{Key}
 use Rattle.terms.specs.declared.Entry.{Entry}
 use Rattle.participants.specs.declared.cell.Cell.{Cell}
 use Rattle.participants.specs.declared.cell.Side.{Side}
-use Rattle.participants.specs.declared.answer.Answer.TheVariants.{Done}
+use Rattle.participants.specs.declared.answer.Accepted.TheVariants.{Done}
 use Rattle.participants.specs.Party.{Party, is_key, no_entry, lowered, raised, do_answer, do_after, after_answer, taken_off, within_ceilings, keys_once, Raisable}
 use Rattle.participants.proofs.Once.{once_push, once_cut}
 use Rattle.participants.proofs.Judged.{accepts, same_party}
 use Rattle.participants.proofs.Sound.{joined_sound, left_sound, raisable}
 
-module _ (p : Party) (e : Entry) (cs : List Cell) (es : List Entry) (yes : Done ≡ do_answer p e) (low : cs ≡ map (lowered e.request) p.cells) (joined : es ≡ push_after 64 p.entries e) where
+module _ (p : Party) (e : Entry) (cs : List Cell) (es : List Entry) (yes : Ok Done ≡ do_answer p e) (low : cs ≡ map (lowered e.request) p.cells) (joined : es ≡ push_after 64 p.entries e) where
   end : es ≡ p.entries ++ e ∷ []
   end = joined ∙ cond-true _ _ _ (lt-ltb _ _ (accepts p e yes).room)
 
@@ -59,13 +59,10 @@ module _ (p : Party) (k : Key) (s : Side) (i : ℕ) (at : place (is_key k) p.ent
 pub there : (k : Key) (es : List Entry) (i : ℕ) → place (is_key k) es ≡ Some i → any (is_key k) es ≡ true
 there k es i h = (found (is_key k) i es h).there
 
--- a place, or none, says whether the key stands
-pub some_stands : (k : Key) (es : List Entry) → is_some (place (is_key k) es) ≡ any (is_key k) es
-some_stands k es = go (place (is_key k) es) refl
-  where
-    go : (o : Option ℕ) → place (is_key k) es ≡ o → is_some o ≡ any (is_key k) es
-    go (Some i) h = sym (found (is_key k) i es h).there
-    go None h = sym (place_none (is_key k) 0 es h)
+-- an entry, or none, says whether the key stands
+pub some_stands : (p : Entry → Bool) (es : List Entry) → is_some (first p es) ≡ any p es
+some_stands p [] = refl
+some_stands p (e ∷ es) = let i = some_stands p es in grind arith
 
 pub not_there : (p : Party) (k : Key) (s : Side) → ((i : ℕ) → place (is_key k) p.entries ≡ Some i → ⊥) → (any (is_key k) p.entries ≡ false) × (taken_off s p k ≡ p)
 not_there p k s h = go (place (is_key k) p.entries) refl

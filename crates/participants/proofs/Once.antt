@@ -1,5 +1,5 @@
 -- No key stands twice.
-use Rattle.std.proofs.Common.{◌≡◌, Bool, true, false, cond, not, List, [], ◌∷◌, ◌++◌, refl, arith}
+use Rattle.std.proofs.Common.{◌≡◌, Bool, true, false, not, List, [], ◌∷◌, ◌++◌, refl, arith}
 use Rattle.std.proofs.lemmas.Bool.{and_parts, and_from, or_parts, or_from, not_from_false, not-true}
 use Rattle.std.proofs.lemmas.Bool.Decides.{nat_tests}
 use Rattle.bounded.specs.Firsts.{any, cut}
@@ -30,8 +30,5 @@ once_cut p (d ∷ es) h =
     let a = and_parts (not (any (is_key d.key) es)) (keys_once es) h in
     let i = once_cut p es a.1 in
     let n = not_from_false _ (any_cut p (is_key d.key) es (not-true _ a.0)) in
-    go (p d) a.1 (and_from _ _ n i)
-  where
-    go : (b : Bool) → keys_once es ≡ true → keys_once (d ∷ cut p es) ≡ true → keys_once (cond b es (d ∷ cut p es)) ≡ true
-    go true x y = x
-    go false x y = y
+    let b = and_from _ _ n i in
+    grind arith

@@ -1,8 +1,7 @@
 -- Each call keeps V + T + G ≤ C at every cell.
 use Rattle.std.proofs.Common.{◌≡◌, ℕ, ◌+◌, ◌≤◌, true, false, ltb, List, [], ◌∷◌, ◌++◌, map, refl, ⊎_elim, arith}
-use Rattle.std.specs.List.{AllByRecursion}
 use Rattle.std.proofs.lemmas.List.Sums.{sum_by_push}
-use Rattle.std.proofs.lemmas.Bool.{and_parts, and_from, and_cases, or_parts, le-leb, leb-true, ltb-false}
+use Rattle.std.proofs.lemmas.Bool.{and_parts, and_from, and_cases, or_parts, le-leb, ltb-false}
 use Rattle.bounded.specs.Firsts.{any, every, pick, cut}
 use Rattle.bounded.proofs.Laws.{sum_cut}
 use Rattle.terms.specs.declared.Key.{Key}
@@ -12,14 +11,8 @@ use Rattle.participants.specs.declared.cell.Cell.{Cell}
 use Rattle.participants.specs.declared.cell.Side.{Side}
 use Rattle.participants.specs.declared.cell.Side.TheVariants.{Take, Give}
 use Rattle.participants.specs.Effects.{takes, gives, effect, taken, given}
-use Rattle.participants.specs.Party.{Party, is_key, no_entry, short, above, lowered, raised, within_ceiling, within_ceilings, Raisable, KeepsCeilings}
-
-record Within (es : List Entry) (x : Cell) : Type 0 where
-  low : x.value + (taken x.number es + given x.number es) ≤ x.ceiling
-  small : x.ceiling ≤ 1000000
-
-within : (es : List Entry) (x : Cell) → within_ceiling es x ≡ true → Within es x
-within es x h = let p = and_parts _ _ h in record { low = leb-true _ _ p.0; small = leb-true _ _ p.1 }
+use Rattle.participants.specs.Party.{is_key, no_entry, short, above, lowered, raised, within_ceiling, within_ceilings, Raisable}
+use Rattle.participants.specs.Laws.{within}
 
 -- one cell, an entry joining
 module _ (es : List Entry) (e : Entry) (x : Cell) where
@@ -72,12 +65,3 @@ module _ (es : List Entry) (k : Key) (there : any (is_key k) es ≡ true) (s : S
   raisable (x ∷ cells) w =
       let a = and_parts (within_ceiling es x) (every (within_ceiling es) cells) w in
       (omega (arith, room_left es k there s x a.0, (within es x a.0).small), raisable cells a.1)
-
--- as the law of a participant says it
-pub keeps : (p : Party) → within_ceilings p.cells p.entries ≡ true → KeepsCeilings p
-unfolding within_ceilings
-keeps p w = go p.cells w
-  where
-    go : (cells : List Cell) → every (within_ceiling p.entries) cells ≡ true → AllByRecursion (λ x. (x.value + (taken x.number p.entries + given x.number p.entries) ≤ x.ceiling) × (x.ceiling ≤ 1000000)) cells
-    go [] w = tt
-    go (x ∷ cells) w = let a = and_parts _ _ w in let k = within p.entries x a.0 in ((k.low, k.small), go cells a.1)

@@ -1,5 +1,5 @@
 -- A participant: its verbs, its cells and its standing entries in order of acceptance; and what each call answers and leaves.
-use Rattle.std.specs.Prelude.{◌≡◌, ℕ, ◌+◌, ◌-◌, ◌≤◌, Bool, true, cond, not, ◌&&◌, List, [], ◌∷◌, ◌++◌, map, length, Some, None, Option, ◌==◌, nat_le, nat_lt}
+use Rattle.std.specs.Prelude.{◌≡◌, ℕ, ◌+◌, ◌-◌, ◌≤◌, Bool, true, cond, not, ◌&&◌, List, [], ◌∷◌, ◌++◌, map, length, Some, None, Option, Ok, Err, Result, ◌==◌, nat_le, nat_lt}
 use Rattle.std.specs.List.{AllByRecursion}
 use Rattle.bounded.specs.Firsts.{any, every, pick, cut}
 use Rattle.terms.specs.declared.Key.{Key}
@@ -8,8 +8,9 @@ use Rattle.terms.specs.declared.Entry.{Entry}
 use Rattle.participants.specs.declared.cell.Cell.{Cell}
 use Rattle.participants.specs.declared.cell.Side.{Side}
 use Rattle.participants.specs.declared.cell.Side.TheVariants.{Take, Give}
-use Rattle.participants.specs.declared.answer.Answer.{Answer}
-use Rattle.participants.specs.declared.answer.Answer.TheVariants.{Done, Already, Refused}
+use Rattle.participants.specs.declared.answer.Accepted.{Accepted}
+use Rattle.participants.specs.declared.answer.Accepted.TheVariants.{Done, Already}
+use Rattle.terms.specs.declared.Refusal.{Refusal}
 use Rattle.terms.specs.declared.Refusal.TheVariants.{Unfit, OtherRequest, Full, Short, Above}
 use Rattle.participants.specs.Effects.{takes, gives, effect, taken, given, fitting}
 
@@ -17,6 +18,10 @@ pub record Party : Type 0 where
   pub verbs : List ℕ
   pub cells : List Cell
   pub entries : List Entry
+
+-- what a participant answers to a request
+abbrev pub Answer : Type 0
+Answer = Result Accepted Refusal
 
 abbrev pub same_request : Request → Request → Bool
 same_request p q = p.verb == q.verb && p.amount == q.amount && p.a == q.a && p.b == q.b
@@ -35,17 +40,17 @@ above es q x = nat_lt 0 (gives x.number q) && nat_lt x.ceiling (x.value + (taken
 -- the answer to a key that does not stand: the causes 40, 42, 43, 44 in this order
 abbrev pub new_answer : List ℕ → List Cell → List Entry → Request → Answer
 new_answer verbs cells es q =
-    cond (not (fitting verbs cells q)) (Refused Unfit)
-    (cond (nat_le 64 (length es)) (Refused Full)
-    (cond (any (short q) cells) (Refused Short)
-    (cond (any (above es q) cells) (Refused Above)
-    Done)))
+    cond (not (fitting verbs cells q)) (Err Unfit)
+    (cond (nat_le 64 (length es)) (Err Full)
+    (cond (any (short q) cells) (Err Short)
+    (cond (any (above es q) cells) (Err Above)
+    (Ok Done))))
 
 -- do: a key that stands is looked at first
 unfoldable pub do_answer : Party → Entry → Answer
 do_answer p e =
     cond (any (is_key e.key) p.entries)
-    (cond (same_request (pick (is_key e.key) e p.entries).request e.request) Already (Refused OtherRequest))
+    (cond (same_request (pick (is_key e.key) e p.entries).request e.request) (Ok Already) (Err OtherRequest))
     (new_answer p.verbs p.cells p.entries e.request)
 
 abbrev pub lowered : Request → Cell → Cell
@@ -59,9 +64,9 @@ abbrev pub accepted : Party → Entry → Party
 accepted p e = record { verbs = p.verbs; cells = map (lowered e.request) p.cells; entries = p.entries ++ e ∷ [] }
 
 abbrev pub after_answer : Answer → Party → Entry → Party
-after_answer Done p e = accepted p e
-after_answer Already p e = p
-after_answer (Refused r) p e = p
+after_answer (Ok Done) p e = accepted p e
+after_answer (Ok Already) p e = p
+after_answer (Err r) p e = p
 
 abbrev pub do_after : Party → Entry → Party
 do_after p e = after_answer (do_answer p e) p e

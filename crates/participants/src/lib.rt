@@ -4,6 +4,6 @@
 pub mod answer;
 pub mod book;
 pub mod cell;
-mod judge;
+mod effect;
 mod opening;
 pub mod participant;

@@ -19,6 +19,7 @@ pub trait Participant {
         ensures cost { writes self.new ≤ writes self.old + 1 };
 
     /// Takes a standing entry off and adds its takes to the values; false where the key does not stand.
+    // A bool, as `HashSet::remove` gives, here and in settle: whether the key stood.
     fn undo(&mut self, key: Key) -> bool
         ensures answer { result ≡ stands (means self.old) key }
         ensures after { means self.new ≡ undo_after (means self.old) key }

@@ -2,22 +2,20 @@
 use Rattle.std.specs.Prelude.{List, [], ◌∷◌, Ok, Err, Result}
 use Rattle.terms.specs.declared.Level.{Level}
 use Rattle.terms.specs.declared.Tag.{Tag}
+use Rattle.participants.specs.declared.book.Book.{Book}
 use Rattle.participants.specs.declared.answer.SiteFault.{SiteFault}
 use Rattle.participants.specs.Party.{Party}
 use Rattle.participants.specs.Books.{book_party}
 use Rattle.bank.specs.declared.chain.NoParticipants.{NoParticipants}
 use Rattle.bank.specs.declared.chain.With.{With}
-use Rattle.site.specs.declared.kinds.Stock.{Stock}
-use Rattle.site.specs.declared.kinds.Ledger.{Ledger}
-use Rattle.site.specs.declared.kinds.Registry.{Registry}
 use Rattle.site.specs.Opening.{open_stock, open_ledger, open_registry}
 
 abbrev pub SiteBank : Type 0
-SiteBank = With Stock (With Ledger (With Registry NoParticipants))
+SiteBank = With (Book 16) (With (Book 32) (With (Book 64) NoParticipants))
 
 -- stock 1, ledger 2, registry 3
 abbrev pub parties_of : SiteBank → List Party
-parties_of b = book_party b.first.book ∷ book_party b.rest.first.book ∷ book_party b.rest.rest.first.book ∷ []
+parties_of b = book_party b.first ∷ book_party b.rest.first ∷ book_party b.rest.rest.first ∷ []
 
 abbrev pub bank_as : Result SiteBank SiteFault → Result (List Party) SiteFault
 bank_as (Ok b) = Ok (parties_of b)

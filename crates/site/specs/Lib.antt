@@ -1,5 +1,4 @@
 pub mod Listing
 pub mod Opening
-pub mod Kinds
 pub mod Banks
 pub mod Examples

@@ -8,13 +8,6 @@ use participants::answer::SiteFault;
 use participants::cell::Cell;
 use terms::{Level, Tag};
 
-/// What stands in the places that no cell has taken.
-const NO_CELL: Cell = Cell {
-    number: 0,
-    value: 0,
-    ceiling: 0,
-};
-
 /// What a site lists becomes a cell by its place in the list, counted from 1.
 pub trait Listed {
     ghost cell: { Self → ℕ → Cell };
@@ -51,11 +44,9 @@ impl Listed for Tag {
 pub(crate) fn cells_of<L: Listed, const C: usize>(list: &[L]) -> Result<Bounded<Cell, C>, SiteFault>
     ensures { listed_as result ≡ listed C L.Listed.cell list.now }
 {
-    let mut cells = Bounded::new(NO_CELL);
+    let mut cells = Bounded::new(Cell::default());
     for (i, item) in list.iter().enumerate() {
-        if !cells.push(item.cell(i as u64 + 1)) {
-            return Err(SiteFault::TooMany);
-        }
+        cells.push(item.cell(i as u64 + 1))?;
     }
     Ok(cells)
 }

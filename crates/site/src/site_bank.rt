@@ -2,7 +2,7 @@
 ghost use Rattle.std.specs.Prelude.{◌≡◌};
 ghost use Rattle.site.specs.Banks.{bank_as, open_bank};
 
-use crate::kinds::{Ledger, Registry, Stock};
+use crate::kinds::{Ledger, Registry, Stock, open_ledger, open_registry, open_stock};
 use bank::chain::{NoParticipants, With};
 use participants::answer::SiteFault;
 use terms::{Level, Tag};
@@ -13,9 +13,9 @@ pub type SiteBank = With<Stock, With<Ledger, With<Registry, NoParticipants>>>;
 pub fn open(groups: &[Level], feeders: &[Level], tags: &[Tag]) -> Result<SiteBank, SiteFault>
     ensures { bank_as result ≡ open_bank groups.now feeders.now tags.now }
 {
-    let stock = Stock::open(groups)?;
-    let ledger = Ledger::open(feeders)?;
-    let registry = Registry::open(tags)?;
+    let stock = open_stock(groups)?;
+    let ledger = open_ledger(feeders)?;
+    let registry = open_registry(tags)?;
     Ok(With {
         first: stock,
         rest: With {

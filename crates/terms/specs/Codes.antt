@@ -1,7 +1,8 @@
 -- The number of each refusal of a participant.
-use Rattle.std.specs.Prelude.{◌≡◌, ℕ, cond, Some, None, Option, ◌==◌}
+use Rattle.std.specs.Prelude.{◌≡◌, ℕ, cond, Some, None, Option, Result, ok_or, ◌==◌}
 use Rattle.terms.specs.declared.Refusal.{Refusal}
 use Rattle.terms.specs.declared.Refusal.TheVariants.{Unfit, OtherRequest, Full, Short, Above}
+use Rattle.terms.specs.declared.UnknownRefusal.{UnknownRefusal}
 
 abbrev pub refusal_code : Refusal → ℕ
 refusal_code Unfit = 40
@@ -19,6 +20,10 @@ refusal_of n =
     (cond (n == 43) (Some Short)
     (cond (n == 44) (Some Above)
     None))))
+
+-- the refusal of a number, or the number that has none
+abbrev pub refusal_read : ℕ → Result Refusal UnknownRefusal
+refusal_read n = ok_or (refusal_of n) (record { 0 = n })
 
 -- a refusal and its number name each other
 pub record CodesNameRefusals : Type 0 where

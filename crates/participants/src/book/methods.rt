@@ -1,15 +1,18 @@
-ghost use Rattle.std.specs.Prelude.{◌≡◌, ℕ, ◌+◌, ◌-◌, ◌<◌, ◌≤◌, Bool, true, List, map, length};
-ghost use Rattle.bounded.specs.Held.{held, push_after};
+ghost use Rattle.std.specs.Prelude.{◌≡◌, ℕ, ◌+◌, ◌≤◌, List, map};
+ghost use Rattle.bounded.specs.Held.{held};
+ghost use Rattle.bounded.proofs.Fronts.{held_fits};
 ghost use Rattle.participants.specs.Effects.{effect};
-ghost use Rattle.participants.specs.Party.{do_answer, do_after, undo_after, settle_after, taken_off, stands, value_of, lowered, raised, Raisable};
+ghost use Rattle.participants.specs.Party.{taken_off, stands, lowered, raised, Raisable};
 ghost use Rattle.participants.specs.Opening.{opened_on};
 ghost use Rattle.participants.specs.Books.{book_party, opened_as};
+ghost use Rattle.participants.specs.Laws.{keeps};
 
-use crate::answer::{Answer, SiteFault};
+use crate::answer::{Accepted, Answer, SiteFault};
 use crate::book::Book;
-use crate::cell::{Cell, Side};
-use crate::judge::{effect_of, find, judge, take_of, value_of};
+use crate::cell::{Cell, Side, value_of};
+use crate::effect::{effect_of, take_of};
 use crate::opening::{all_in_range, numbered_once};
+use crate::participant::Participant;
 use bounded::Bounded;
 use terms::{Entry, Key, Request};
 
@@ -22,15 +25,16 @@ fn lower_cell(cell: Cell, q: &Request) -> Cell
     }
 }
 
-// Each value falls by what the request takes of its cell.
-fn lower<const C: usize>(cells: &mut Bounded<Cell, C>, q: &Request)
-    ensures { held cells.new ≡ map (lowered q.now) (held cells.old) }
+// Each value falls by what the request takes of its cell. A new list, here and in all_raised: lending the items for writing was
+// tried, and the list's ghost fields did not come back. Two loops: raising asks for room at each cell, lowering does not.
+fn all_lowered<const C: usize>(cells: &Bounded<Cell, C>, q: &Request) -> Bounded<Cell, C>
+    ensures { held result ≡ map (lowered q.now) (held cells.now) }
 {
-    for i in 0..cells.len() {
-        if let Some(cell) = cells.get(i) {
-            cells.set(i, lower_cell(cell, q));
-        }
+    let mut low = Bounded::new(Cell::default());
+    for cell in cells.as_slice() {
+        let _ = low.push(lower_cell(*cell, q));
     }
+    low
 }
 
 fn raise_cell(cell: Cell, side: Side, q: &Request) -> Cell
@@ -44,37 +48,21 @@ fn raise_cell(cell: Cell, side: Side, q: &Request) -> Cell
 }
 
 // Each value grows by one side of the request's effect on its cell.
-fn raise<const C: usize>(cells: &mut Bounded<Cell, C>, side: Side, q: &Request)
-    requires { Raisable side q.now (held cells.old) }
-    ensures { held cells.new ≡ map (raised side q.now) (held cells.old) }
+#[tactic(auto, using(crate::proofs::Cells::raisable_at))]
+fn all_raised<const C: usize>(cells: &Bounded<Cell, C>, side: Side, q: &Request) -> Bounded<Cell, C>
+    requires { Raisable side q.now (held cells.now) }
+    ensures { held result ≡ map (raised side q.now) (held cells.now) }
 {
-    for i in 0..cells.len() {
-        if let Some(cell) = cells.get(i) {
-            cells.set(i, raise_cell(cell, side, q));
-        }
+    let mut high = Bounded::new(Cell::default());
+    for cell in cells.as_slice() {
+        let _ = high.push(raise_cell(*cell, side, q));
     }
+    high
 }
-
-// Entries stand in the order in which they were let in.
-fn join(entries: &mut Bounded<Entry, 64>, entry: Entry)
-    ensures { held entries.new ≡ push_after 64 (held entries.old) entry }
-{
-    entries.push(entry);
-}
-
-/// What stands in the places that no entry has taken yet.
-const NO_ENTRY: Entry = Entry {
-    key: Key { saga: 0, step: 0 },
-    request: Request {
-        verb: 0,
-        amount: 0,
-        a: 0,
-        b: 0,
-    },
-};
 
 impl<const C: usize> Book<C> {
     /// A participant of these verbs on these cells, with nothing standing.
+    #[tactic(auto, using(crate::proofs::Opened::opened_sound))]
     pub fn open(verbs: Bounded<u8, 2>, cells: Bounded<Cell, C>) -> Result<Book<C>, SiteFault>
         ensures { opened_as result ≡ opened_on (held verbs) (held cells.entry) }
     {
@@ -87,42 +75,8 @@ impl<const C: usize> Book<C> {
         Ok(Book {
             verbs,
             cells,
-            entries: Bounded::new(NO_ENTRY),
+            entries: Bounded::new(Entry::default()),
         })
-    }
-
-    /// Lets an entry in, or says why not.
-    pub fn perform(&mut self, entry: Entry) -> Answer
-        ensures answer { result ≡ do_answer (book_party self.old) entry }
-        ensures after { book_party self.new ≡ do_after (book_party self.old) entry }
-    {
-        let answer = judge(
-            self.verbs.as_slice(),
-            self.cells.as_slice(),
-            self.entries.as_slice(),
-            &entry,
-        );
-        if let Answer::Done = answer {
-            lower(&mut self.cells, &entry.request);
-            join(&mut self.entries, entry);
-        }
-        answer
-    }
-
-    /// Takes a standing entry off and adds its takes to the values; false where the key does not stand.
-    pub fn undo(&mut self, key: Key) -> bool
-        ensures answer { result ≡ stands (book_party self.old) key }
-        ensures after { book_party self.new ≡ undo_after (book_party self.old) key }
-    {
-        self.take_off(key, Side::Take)
-    }
-
-    /// Takes a standing entry off and adds its gives to the values; false where the key does not stand.
-    pub fn settle(&mut self, key: Key) -> bool
-        ensures answer { result ≡ stands (book_party self.old) key }
-        ensures after { book_party self.new ≡ settle_after (book_party self.old) key }
-    {
-        self.take_off(key, Side::Give)
     }
 
     // Takes a standing entry off, and adds one side of its effect to the values.
@@ -130,28 +84,52 @@ impl<const C: usize> Book<C> {
         ensures answer { result ≡ stands (book_party self.old) key }
         ensures after { book_party self.new ≡ taken_off side (book_party self.old) key }
     {
-        let Some(i) = find(self.entries.as_slice(), key) else {
+        let Some(i) = self.place(key) else {
             return false;
         };
         let Some(entry) = self.entries.get(i) else {
             return false;
         };
-        raise(&mut self.cells, side, &entry.request);
+        self.cells = all_raised(&self.cells, side, &entry.request);
         self.entries.remove(i);
         true
     }
+}
 
-    /// The value of a cell, if it has it.
-    pub fn value(&self, cell: u64) -> Option<u32>
-        ensures { result ≡ value_of (book_party self.now) cell }
-    {
+impl<const C: usize> Participant for Book<C> {
+    ghost means = { book_party };
+
+    ghost writes = { λ _. 0 };
+
+    ghost ceilings = { λ b. keeps (book_party b) b.sound };
+
+    ghost orderly = { λ b. (b.once, held_fits b.entries) };
+
+    #[tactic(auto, using(crate::proofs::Kept::performed, crate::proofs::Kept::performed_once, crate::proofs::Kept::performed_sound))]
+    fn perform(&mut self, entry: Entry) -> Answer {
+        let accepted = self.judge(&entry)?;
+        if let Accepted::Done = accepted {
+            self.cells = all_lowered(&self.cells, &entry.request);
+            // The judge saw room for it.
+            let _ = self.entries.push(entry);
+        }
+        Ok(accepted)
+    }
+
+    fn undo(&mut self, key: Key) -> bool {
+        self.take_off(key, Side::Take)
+    }
+
+    fn settle(&mut self, key: Key) -> bool {
+        self.take_off(key, Side::Give)
+    }
+
+    fn value(&self, cell: u64) -> Option<u32> {
         value_of(self.cells.as_slice(), cell)
     }
 
-    /// Whether the key stands.
-    pub fn stands(&self, key: Key) -> bool
-        ensures { result ≡ stands (book_party self.now) key }
-    {
-        find(self.entries.as_slice(), key).is_some()
+    #[tactic(auto, using(crate::proofs::Kept::some_stands))]
+    fn stands(&self, key: Key) -> bool {
+        self.standing(key).is_some()
     }
 }
