@@ -7,23 +7,14 @@ use crate::traits::{Journal, JournalRead};
 use bounded::Bounded;
 use record::Record;
 
-const EMPTY: Record = Record {
-    kind: 0,
-    saga: 0,
-    step: 0,
-    participant: 0,
-    verb: 0,
-    depth: 0,
-    cause: 0,
-    amount: 0,
-    a: 0,
-    b: 0,
-};
+/// How many places a table has.
+const PLACES: usize = 256;
 
 /// A journal of 256 places.
 #[derive(Drop)]
 pub struct TableJournal {
-    list: Bounded<Record, 256>,
+    // Fixed memory: a journal has no heap.
+    list: Bounded<Record, PLACES>,
 }
 
 impl TableJournal {
@@ -32,7 +23,7 @@ impl TableJournal {
         ensures { held result.list ≡ [] }
     {
         TableJournal {
-            list: Bounded::new(EMPTY),
+            list: Bounded::new(Record::default()),
         }
     }
 }
@@ -57,15 +48,11 @@ impl Journal for TableJournal {
     ghost lender = { λ _. 0 };
 
     fn capacity(&self) -> usize {
-        256
+        PLACES
     }
 
     fn append(&mut self, r: Record) -> Result<(), JournalFault> {
         let place = self.list.len();
-        if self.list.push(r) {
-            Ok(())
-        } else {
-            Err(JournalFault::Full { place })
-        }
+        self.list.push(r).map_err(|_| JournalFault::Full { place })
     }
 }

@@ -3,6 +3,8 @@ ghost use Rattle.std.specs.Prelude.{◌≡◌, ℕ, List};
 ghost use Rattle.record.specs.Writes.{Write, write, done};
 ghost use Rattle.record.specs.Cutting.{cut_writer, cut_wrote, cut_next};
 
+use crate::SLOT;
+
 /// Writes bytes one at a time. Code that is generic over it cannot see whether it will be cut,
 /// and a contract that holds for every writer fixes the writes that the code makes and their order.
 pub trait ByteWriter {
@@ -19,6 +21,7 @@ pub trait ByteWriter {
 }
 
 /// One byte to a place; none past the end.
+#[tactic(auto, using(std::proofs::lemmas::List::set_past))]
 fn put_byte(bytes: &mut [u8], place: usize, byte: u8)
     ensures { bytes.new ≡ done (write place byte) bytes.old }
 {
@@ -45,9 +48,9 @@ impl ByteWriter for Uncut {
 /// unless it is a mark, which stays, and no later one is done.
 #[derive(Clone, Copy)]
 pub struct CutAfter {
-    left: usize,
+    // None once the cut is over.
+    left: Option<usize>,
     junk: u8,
-    over: bool,
 }
 
 impl CutAfter {
@@ -56,9 +59,8 @@ impl CutAfter {
         ensures { result ≡ cut_writer writes junk }
     {
         CutAfter {
-            left: writes,
+            left: Some(writes),
             junk,
-            over: false,
         }
     }
 }
@@ -69,18 +71,19 @@ impl ByteWriter for CutAfter {
     ghost next = { cut_next };
 
     fn put(&mut self, bytes: &mut [u8], place: usize, byte: u8) {
-        if self.over {
-            return;
-        }
-        if self.left > 0 {
-            self.left -= 1;
-            put_byte(bytes, place, byte);
-            return;
-        }
-        self.over = true;
-        // A mark is the first byte of a slot.
-        if place % 32 != 0 {
-            put_byte(bytes, place, self.junk);
+        match self.left {
+            None => {}
+            Some(0) => {
+                self.left = None;
+                // A mark is the first byte of a slot.
+                if place % SLOT != 0 {
+                    put_byte(bytes, place, self.junk);
+                }
+            }
+            Some(left) => {
+                self.left = Some(left - 1);
+                put_byte(bytes, place, byte);
+            }
         }
     }
 }
