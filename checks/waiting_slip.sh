@@ -20,19 +20,20 @@ order() {
 
 use bank::bank::Bank;
 use journals::traits::Journal;
+use runner::$1;
 use runner::runner::Runner;
-use runner::ticket::$1;
+use runner::ticket::Ticket;
 use runner::waiting::Waiting;
 use terms::Request;
 
-pub fn order<J: Journal, B: Bank>(runner: &mut Runner<J, B>, slip: Waiting, request: Request) -> $1 {
-    $2
+pub fn order<J: Journal, B: Bank>(runner: &mut Runner<J, B>, slip: Waiting, request: Request) -> $2 {
+    $3
 }
 CODE
     (cd "$dir/crates/misuse" && rt check) > "$dir/log" 2>&1
     grep -q 'mismatched-types\|expected.*Ticket' "$dir/log"
 }
 
-order Stepped 'runner.step(slip, 1, request)' || { echo 'a step on a slip is not refused as a wrong type'; exit 1; }
-order Ended 'runner.finish(slip)' || { echo 'a finish on a slip is not refused as a wrong type'; exit 1; }
+order fault::RunnerFault 'Result<Waiting, (Ticket, RunnerFault)>' 'runner.step(slip, 1, request)' || { echo 'a step on a slip is not refused as a wrong type'; exit 1; }
+order declined::Declined 'Result<(), Declined<Ticket>>' 'runner.finish(slip)' || { echo 'a finish on a slip is not refused as a wrong type'; exit 1; }
 echo 'refused by the compiler: a step and a finish on a waiting slip'

@@ -1,6 +1,5 @@
 pub mod Bares
 pub mod Kept
-pub mod Pushes
-pub mod Readings
 pub mod Said
+pub mod Searched
 pub mod Tabled

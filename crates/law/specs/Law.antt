@@ -1,15 +1,14 @@
 -- What a record does to its saga, and when it is lawful.
-use Rattle.std.specs.Prelude.{ℕ, ◌+◌, ◌-◌, Bool, true, false, cond, ◌&&◌, List, [], ◌∷◌, ◌++◌, length, take, Some, None, Option, ◌==◌, nat_eq, nat_le, nat_lt}
+use Rattle.std.specs.Prelude.{ℕ, ◌+◌, ◌-◌, Bool, true, false, cond, ◌&&◌, List, [], ◌∷◌, ◌++◌, length, take, Some, None, Option, ◌==◌, nat_eq, nat_le, nat_lt, Err, Ok}
 use Rattle.std.specs.List.{slice_get, remove}
-use Rattle.law.specs.declared.event.Outcome.{Outcome}
-use Rattle.law.specs.declared.event.Outcome.TheVariants.{Done as WentWell, Refused as WentNot}
+use Rattle.law.specs.Outcomes.{Outcome}
 use Rattle.law.specs.declared.event.Aim.{Aim}
 use Rattle.law.specs.declared.event.Aim.TheVariants.{Stepping, Retreating, Finishing}
 use Rattle.law.specs.declared.event.Step.{Step}
 use Rattle.law.specs.declared.event.Phase.{Phase}
 use Rattle.law.specs.declared.event.Phase.TheVariants.{Running, Pending, Closed}
 use Rattle.law.specs.declared.event.Event.{Event}
-use Rattle.law.specs.declared.event.Event.TheVariants.{Begin, Intent, Done, Refused, Mark, Join, Back, Undone, Finish, Settled, Unlawful}
+use Rattle.law.specs.declared.event.Event.TheVariants.{Begin, Intent, Done, Refused, Mark, Join, Back, Undone, Finish, Settled}
 
 -- what the law knows of a saga: its number, its phase, the last step issued, the steps that stand in the order of their
 -- numbers, its marks from the outermost on, each the last step issued when it was set, and what became of its last step
@@ -25,7 +24,7 @@ abbrev pub saga : ℕ → Phase → ℕ → List Step → List ℕ → Outcome �
 saga n p l s m o = record { number = n; phase = p; last = l; standing = s; marks = m; outcome = o }
 
 abbrev pub begun : ℕ → Saga
-begun n = saga n Running 0 [] [] WentWell
+begun n = saga n Running 0 [] [] (Ok tt)
 
 -- a retreat to depth d that is over: closed where d is 0, else running
 abbrev pub back_at : ℕ → Phase
@@ -76,15 +75,14 @@ without_last xs = take (length xs - 1) xs
 abbrev pub next : Saga → Event → Saga
 next s Begin = s
 next s (Intent t) = saga s.number (Pending Stepping t) t.number s.standing s.marks s.outcome
-next s (Done k) = saga s.number Running s.last (with_pending s.phase s.standing) s.marks WentWell
-next s (Refused k c) = saga s.number Running s.last s.standing s.marks (WentNot c)
+next s (Done k) = saga s.number Running s.last (with_pending s.phase s.standing) s.marks (Ok tt)
+next s (Refused k c) = saga s.number Running s.last s.standing s.marks (Err c)
 next s Mark = saga s.number Running s.last s.standing (s.marks ++ s.last ∷ []) s.outcome
 next s Join = saga s.number Running s.last s.standing (without_last s.marks) s.outcome
 next s (Back d) = saga s.number (retreat (target s.marks d) d s.standing) s.last s.standing (take d s.marks) s.outcome
 next s (Undone k) = saga s.number (retreat_on s.phase (without_last s.standing)) s.last (without_last s.standing) s.marks s.outcome
 next s Finish = saga s.number (finishing s.standing) s.last s.standing s.marks s.outcome
 next s (Settled k) = saga s.number (finishing (remove s.standing 0)) s.last (remove s.standing 0) s.marks s.outcome
-next s Unlawful = s
 
 abbrev pub if_running : Phase → Bool → Bool
 if_running Running b = b
@@ -131,7 +129,6 @@ lawful n s (Back d) = if_running s.phase (nat_le d (length s.marks))
 lawful n s (Undone k) = if_retreating s.phase (λ t. nat_eq k t.number)
 lawful n s Finish = if_running s.phase (length s.marks == 0)
 lawful n s (Settled k) = if_finishing s.phase (λ t. nat_eq k t.number)
-lawful n s Unlawful = false
 
 -- whether it is lawful, and the saga then
 abbrev pub moved : ℕ → Saga → Event → Bool × Saga

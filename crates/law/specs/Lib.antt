@@ -4,6 +4,7 @@ pub mod Events
 pub mod Keeps
 pub mod Law
 pub mod Means
+pub mod Outcomes
 pub mod Sagas
 pub mod Tables
 pub mod Views

@@ -3,7 +3,7 @@ use Rattle.std.specs.Prelude.{ℕ, ◌+◌, Bool, true, false, cond, ◌&&◌, L
 use Rattle.bounded.specs.Firsts.{cut, put, first}
 use Rattle.record.specs.declared.Record.{Record}
 use Rattle.law.specs.declared.event.Event.{Event}
-use Rattle.law.specs.declared.event.Event.TheVariants.{Begin, Intent, Done, Refused, Mark, Join, Back, Undone, Finish, Settled, Unlawful}
+use Rattle.law.specs.declared.event.Event.TheVariants.{Begin, Intent, Done, Refused, Mark, Join, Back, Undone, Finish, Settled}
 use Rattle.law.specs.Events.{event_of}
 use Rattle.law.specs.Law.{Saga, begun, lawful, next, owes, is_open}
 
@@ -48,7 +48,6 @@ applied n s (Back d) v t = moves n s (Back d) t
 applied n s (Undone i) v t = moves n s (Undone i) t
 applied n s Finish v t = moves n s Finish t
 applied n s (Settled i) v t = moves n s (Settled i) t
-applied n s Unlawful v t = moves n s Unlawful t
 
 abbrev pub owed : {V : Type 0} → Sagas V → ℕ
 owed t = sum_by (λ x. owes x.0) t.rows
@@ -61,9 +60,13 @@ renoted s v (x ∷ rows) = cond (of_saga s x) ((x.0, v) ∷ rows) (x ∷ renoted
 abbrev pub noted : {V : Type 0} → ℕ → V → Sagas V → Sagas V
 noted s v t = sagas t.top (renoted s v t.rows)
 
--- the same of a record as it lies in the journal
+abbrev pub applied_if : {V : Type 0} → ℕ → ℕ → Option Event → V → Sagas V → Bool × Sagas V
+applied_if n s None v t = (false, t)
+applied_if n s (Some e) v t = applied n s e v t
+
+-- the same of a record as it lies in the journal; one that says nothing is unlawful
 abbrev pub taken : {V : Type 0} → ℕ → V → Sagas V → Record → Bool × Sagas V
-taken n v t r = applied n r.saga (event_of r) v t
+taken n v t r = applied_if n r.saga (event_of r) v t
 
 -- the law's reading of the records, from the i-th on: the sagas, or the index of the first that is not lawful
 abbrev pub read_from : {V : Type 0} → ℕ → V → ℕ → Sagas V → List Record → Result (Sagas V) ℕ

@@ -4,20 +4,24 @@ ghost use Rattle.law.specs.Keeps.{Readings};
 ghost use Rattle.law.specs.Sagas.{reading};
 ghost use Rattle.law.specs.Tables.{table_read};
 
-use crate::event::Event;
 use crate::table::Table;
-use record::Record;
+use journals::traits::JournalRead;
 
-/// Reads records in a bank of so many participants: the table of the open sagas, each with the note, or the index of
+/// Reads a journal in a bank of so many participants: the table of the open sagas, each with the note, or the index of
 /// the first record that is not lawful.
-pub fn read<V: Copy>(records: &[Record], participants: u8, note: V) -> Result<Table<V>, usize>
-    ensures value { table_read result ≡ reading participants note records.now }
+#[tactic(auto, using(crate::proofs::Kept::readings))]
+pub fn read<J: JournalRead, V: Copy>(
+    journal: &J,
+    participants: u8,
+    note: V,
+) -> Result<Table<V>, usize>
+    ensures value { table_read result ≡ reading participants note (J.JournalRead.records journal.now) }
     ensures law { Readings V }
 {
     let mut table = Table::new(note);
-    for (i, record) in records.iter().enumerate() {
-        if !table.apply(record.saga, Event::of(record), participants, note) {
-            return Err(i);
+    for (place, record) in journal.entries().enumerate() {
+        if table.take(record, participants, note).is_err() {
+            return Err(place);
         }
     }
     Ok(table)
@@ -26,12 +30,13 @@ pub fn read<V: Copy>(records: &[Record], participants: u8, note: V) -> Result<Ta
 #[cfg(test)]
 mod tests {
     use super::*;
+    use crate::event::Event;
     use std::test::Fail;
 
     #[test]
     fn an_undo_before_any_step_is_unlawful(rt: HostRuntime) -> Result<(), Fail> {
         let records = [Event::Begin.to_record(5), Event::Undone(1).to_record(5)];
-        match read(&records, 3, ()) {
+        match read(&&records[..], 3, ()) {
             Err(index) => {
                 assert_eq!(rt; index, 1);
                 Ok(())

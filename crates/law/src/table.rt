@@ -22,6 +22,7 @@ pub struct Table<V> {
     rows: Bounded<Open<V>, 8>,
 }
 
+// By hand: a derive asks V: Clone, and the list copies its items.
 impl<V: Copy> Clone for Table<V> {
     ghost is_clone = { λ s r. r ≡ s };
 

@@ -14,9 +14,8 @@ use Rattle.law.specs.declared.event.Step.{Step}
 use Rattle.law.specs.declared.event.Phase.TheVariants.{Pending}
 use Rattle.law.specs.Law.{Saga}
 use Rattle.law.specs.Sagas.{Sagas, owed, reading}
-use Rattle.runner.specs.declared.memory.Memory.TheVariants.{Blank}
 use Rattle.runner.specs.declared.fault.RunnerFault.{RunnerFault}
-use Rattle.runner.specs.declared.memory.Memory.{Memory}
+use Rattle.runner.specs.Memories.{Memory}
 use Rattle.runner.specs.Worlds.{World}
 use Rattle.runner.specs.Calls.{asked_after, restart_by, restarted}
 use Rattle.runner.specs.declared.moves.Call.{Call}
@@ -41,7 +40,7 @@ none_more before ps gone h = subst (Worth before ps) (sym (append-nil gone)) h
 
 -- what a settle takes off at its participant and elsewhere
 module _ (ps : List Party) (s : ℕ) (t : Step) (gone : Taken) where
-  taken_here : (a : Aim) → of_party t.participant (gone ++ settle_by s ps (Pending a t) Blank) ≡ of_party t.participant gone ++ left_by a (party_at ps t.participant) s t
+  taken_here : (a : Aim) → of_party t.participant (gone ++ settle_by s ps (Pending a t) None) ≡ of_party t.participant gone ++ left_by a (party_at ps t.participant) s t
   taken_here Stepping = ap (of_party t.participant) (append-nil gone) ∙ sym (append-nil (of_party t.participant gone))
   taken_here (Retreating g d) = ap (of_party t.participant) (append-nil gone) ∙ sym (append-nil (of_party t.participant gone))
   taken_here Finishing = go (any (is_key (key s t.number)) (party_at ps t.participant).entries)
@@ -50,7 +49,7 @@ module _ (ps : List Party) (s : ℕ) (t : Step) (gone : Taken) where
       go true = of_party_one t.participant t.participant (pick (is_key (key s t.number)) no_entry (party_at ps t.participant).entries) gone refl
       go false = ap (of_party t.participant) (append-nil gone) ∙ sym (append-nil (of_party t.participant gone))
 
-  taken_away : (a : Aim) (p : ℕ) → (p ≡ t.participant → ⊥) → of_party p (gone ++ settle_by s ps (Pending a t) Blank) ≡ of_party p gone
+  taken_away : (a : Aim) (p : ℕ) → (p ≡ t.participant → ⊥) → of_party p (gone ++ settle_by s ps (Pending a t) None) ≡ of_party p gone
   taken_away Stepping p d = ap (of_party p) (append-nil gone)
   taken_away (Retreating g n) p d = ap (of_party p) (append-nil gone)
   taken_away Finishing p d = go (any (is_key (key s t.number)) (party_at ps t.participant).entries)
@@ -59,10 +58,10 @@ module _ (ps : List Party) (s : ℕ) (t : Step) (gone : Taken) where
       go true = of_party_off p t.participant (pick (is_key (key s t.number)) no_entry (party_at ps t.participant).entries) gone (λ e. d (sym e))
       go false = ap (of_party p) (append-nil gone)
 
-  asked_worth : (before : List Party) (a : Aim) → Worth before ps gone → Worth before (asked_after a ps s t) (gone ++ settle_by s ps (Pending a t) Blank)
+  asked_worth : (before : List Party) (a : Aim) → Worth before ps gone → Worth before (asked_after a ps s t) (gone ++ settle_by s ps (Pending a t) None)
   asked_worth before a h = record { worth = worth_now }
     where
-      here_worth : (c v : ℕ) → value_of (party_at before t.participant) c ≡ Some v → (u : ℕ) × (value_of (party_at (asked_after a ps s t) t.participant) c ≡ Some u) × (u + taken c (party_at (asked_after a ps s t) t.participant).entries + taken c (of_party t.participant (gone ++ settle_by s ps (Pending a t) Blank)) ≡ v + given c (of_party t.participant (gone ++ settle_by s ps (Pending a t) Blank)))
+      here_worth : (c v : ℕ) → value_of (party_at before t.participant) c ≡ Some v → (u : ℕ) × (value_of (party_at (asked_after a ps s t) t.participant) c ≡ Some u) × (u + taken c (party_at (asked_after a ps s t) t.participant).entries + taken c (of_party t.participant (gone ++ settle_by s ps (Pending a t) None)) ≡ v + given c (of_party t.participant (gone ++ settle_by s ps (Pending a t) None)))
       here_worth c v k =
           let P = party_at ps t.participant in
           let old = h.worth t.participant c v k in
@@ -73,14 +72,14 @@ module _ (ps : List Party) (s : ℕ) (t : Step) (gone : Taken) where
           let gx = ap (given c) (taken_here a) ∙ sum_by-append (λ (e : Entry). gives c e.request) (of_party t.participant gone) (left_by a P s t) in
           (even.0, even.1, omega (arith, was, is, tx, gx))
 
-      away_worth : (p c v : ℕ) → (p ≡ t.participant → ⊥) → value_of (party_at before p) c ≡ Some v → (u : ℕ) × (value_of (party_at (asked_after a ps s t) p) c ≡ Some u) × (u + taken c (party_at (asked_after a ps s t) p).entries + taken c (of_party p (gone ++ settle_by s ps (Pending a t) Blank)) ≡ v + given c (of_party p (gone ++ settle_by s ps (Pending a t) Blank)))
+      away_worth : (p c v : ℕ) → (p ≡ t.participant → ⊥) → value_of (party_at before p) c ≡ Some v → (u : ℕ) × (value_of (party_at (asked_after a ps s t) p) c ≡ Some u) × (u + taken c (party_at (asked_after a ps s t) p).entries + taken c (of_party p (gone ++ settle_by s ps (Pending a t) None)) ≡ v + given c (of_party p (gone ++ settle_by s ps (Pending a t) None)))
       away_worth p c v d k =
           subst (λ (x : List Entry). (u : ℕ) × (value_of (party_at (asked_after a ps s t) p) c ≡ Some u) × (u + taken c (party_at (asked_after a ps s t) p).entries + taken c x ≡ v + given c x)) (sym (taken_away a p d))
           (subst (λ (x : Party). (u : ℕ) × (value_of x c ≡ Some u) × (u + taken c x.entries + taken c (of_party p gone) ≡ v + given c (of_party p gone))) (sym (elsewhere ps s t a p d)) (h.worth p c v k))
 
-      worth_now : (p c v : ℕ) → value_of (party_at before p) c ≡ Some v → (u : ℕ) × (value_of (party_at (asked_after a ps s t) p) c ≡ Some u) × (u + taken c (party_at (asked_after a ps s t) p).entries + taken c (of_party p (gone ++ settle_by s ps (Pending a t) Blank)) ≡ v + given c (of_party p (gone ++ settle_by s ps (Pending a t) Blank)))
+      worth_now : (p c v : ℕ) → value_of (party_at before p) c ≡ Some v → (u : ℕ) × (value_of (party_at (asked_after a ps s t) p) c ≡ Some u) × (u + taken c (party_at (asked_after a ps s t) p).entries + taken c (of_party p (gone ++ settle_by s ps (Pending a t) None)) ≡ v + given c (of_party p (gone ++ settle_by s ps (Pending a t) None)))
       worth_now p c v k = ⊎_elim
-          (λ (e : p ≡ t.participant). subst (λ (q : ℕ). value_of (party_at before q) c ≡ Some v → (u : ℕ) × (value_of (party_at (asked_after a ps s t) q) c ≡ Some u) × (u + taken c (party_at (asked_after a ps s t) q).entries + taken c (of_party q (gone ++ settle_by s ps (Pending a t) Blank)) ≡ v + given c (of_party q (gone ++ settle_by s ps (Pending a t) Blank)))) (sym e) (here_worth c v) k)
+          (λ (e : p ≡ t.participant). subst (λ (q : ℕ). value_of (party_at before q) c ≡ Some v → (u : ℕ) × (value_of (party_at (asked_after a ps s t) q) c ≡ Some u) × (u + taken c (party_at (asked_after a ps s t) q).entries + taken c (of_party q (gone ++ settle_by s ps (Pending a t) None)) ≡ v + given c (of_party q (gone ++ settle_by s ps (Pending a t) None)))) (sym e) (here_worth c v) k)
           (λ (d : p ≡ t.participant → ⊥). away_worth p c v d k)
           (cases_eq p t.participant)
 
@@ -92,14 +91,16 @@ turns : (before : List Party) (w : World) (gone : Taken) → Worth before w.part
 turns before w gone h =
     let k = none_more before w.parties gone h in
     record {
-      same = k;
-      began = λ s e may l. k;
-      stepped = λ s t x f run law l. k;
-      marked = λ s x f run law l. k;
-      joined = λ s x f run law l. k;
-      backed = λ s d x f run law l. k;
-      finished = λ s x f run law. k;
-      cancelled = λ s x f run law. k;
+      writes = record {
+        same = k;
+        began = λ s e may l. k;
+        stepped = λ s t x f run law l. k;
+        marked = λ s x f run law l. k;
+        joined = λ s x f run law l. k;
+        backed = λ s d x f run law l. k;
+        finished = λ s x f run law. k;
+        cancelled = λ s x f run law. k;
+      };
       asked = λ s a t x f ph mem. asked_worth w.parties s t gone before a h;
       told = λ s a t y x f ph mem. k;
     }
@@ -110,7 +111,7 @@ worth_restarted before w gone (Ok t) h = cond_both (ltb (w.capacity - length w.r
 
 worth_called : (before : List Party) (w : World) (gone : Taken) (c : Call) → Worth before w.parties gone → Worth before (called w c).parties (gone ++ settles w c)
 worth_called before w gone c h =
-    let again = worth_restarted before w gone (reading (count_of w.parties) Blank w.records) h in
+    let again = worth_restarted before w gone (reading (count_of w.parties) None w.records) h in
     turned w (KeptWorth before gone) (turns before w gone h) (none_more before (restarted w).1.parties gone again) c
 
 worth_act : (before : List Party) (w : World) (gone : Taken) (c : Call) (r : Reach) → Worth before w.parties gone → Worth before (act_by w c r).parties (gone ++ settles_at w c r)
@@ -131,7 +132,7 @@ none_of_all : (es : List Entry) → ((s : ℕ) → mine s es ≡ []) → es ≡ 
 none_of_all [] h = refl
 none_of_all (e ∷ es) h =
     let it : ◌≡◌ {A = List Entry} (e ∷ mine e.key.saga es) [] = sym (cond-true (eqb e.key.saga e.key.saga) (e ∷ mine e.key.saga es) (mine e.key.saga es) (eqb_refl e.key.saga)) ∙ h e.key.saga in
-    let z : ◌≡◌ {A = ℕ} 0 1 = cc in absurd (omega arith)
+    absurd cc
 
 pub balance_kept : (w : World) (ms : List Move) → Start w → Balance w ms
 balance_kept w ms h shut =

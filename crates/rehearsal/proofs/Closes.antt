@@ -1,13 +1,15 @@
 -- A saga that is cancelled or finished is open only while its completed advances are fewer than two for each step that stood, and one for each restart since.
 -- What counts down: twice the standing steps, less one while an answer is remembered, less one while the journal is not read.
-use Rattle.std.proofs.Common.{◌≡◌, ℕ, ◌+◌, ◌-◌, ◌*◌, ◌<◌, ◌≤◌, Bool, true, false, cond, ◌&&◌, eqb, ltb, ◌⊎◌, List, [], ◌∷◌, length, take, Some, None, Ok, Err, fold, Option, Result, sym, refl, ap, ◌∙◌, subst, inl, inr, ⊎_elim, arith, is_ok, is_some}
+use Rattle.std.proofs.Common.{◌≡◌, ℕ, ◌+◌, ◌-◌, ◌*◌, ◌<◌, ◌≤◌, Bool, true, false, cond, ◌&&◌, eqb, ltb, ◌⊎◌, List, [], ◌∷◌, length, Some, None, Ok, Err, fold, Option, Result, sym, refl, ap, ◌∙◌, subst, inl, inr, ⊎_elim, arith, is_ok, is_some}
 use Rattle.std.specs.List.{remove}
 use Rattle.std.specs.Option.{option_map}
-use Rattle.std.proofs.lemmas.List.{length-append}
+use Rattle.std.proofs.lemmas.List.{length-take}
+use Rattle.std.proofs.lemmas.List.Edits.{length-remove}
+use Rattle.std.proofs.lemmas.Option.{slice_get_within}
 use Rattle.std.proofs.lemmas.List.Sums.{sum_by-cons}
-use Rattle.std.proofs.lemmas.Bool.{cond_both, cases_eq, eq-eqb, ne_eqb}
+use Rattle.std.proofs.lemmas.Bool.{both_ways, cond_both, cases_eq, eq-eqb, ne_eqb}
 use Rattle.bounded.specs.Firsts.{first}
-use Rattle.law.specs.declared.event.Outcome.{Outcome}
+use Rattle.law.specs.Outcomes.{Outcome}
 use Rattle.terms.specs.declared.Entry.{Entry}
 use Rattle.bank.specs.Banks.{count_of}
 use Rattle.law.specs.declared.event.Aim.{Aim}
@@ -18,54 +20,55 @@ use Rattle.law.specs.declared.event.Event.TheVariants.{Intent, Mark as Marks, Jo
 use Rattle.law.specs.declared.event.Phase.{Phase}
 use Rattle.law.specs.declared.event.Phase.TheVariants.{Running, Pending, Closed}
 use Rattle.law.specs.declared.table.View.{View}
-use Rattle.law.specs.Law.{Saga, saga, begun, next, lawful, retreat_by, back_at, finishing, is_open}
+use Rattle.law.specs.Keeps.{Sound}
+use Rattle.law.proofs.Kept.{keeps_row, readings}
+use Rattle.law.specs.Law.{Saga, saga, begun, next, lawful, retreat_by, finishing, is_open}
 use Rattle.law.specs.Sagas.{Sagas, of_saga, moves, applied, noted, renoted, owed, reading}
-use Rattle.law.specs.Bare.{bare, row_bare}
+use Rattle.law.specs.Bare.{bare}
 use Rattle.law.specs.Views.{view, view_of}
-use Rattle.runner.specs.declared.memory.Memory.{Memory}
-use Rattle.runner.specs.declared.memory.Memory.TheVariants.{Blank, Told}
+use Rattle.runner.specs.Memories.{Memory}
 use Rattle.runner.specs.declared.fault.RunnerFault.{RunnerFault}
 use Rattle.runner.specs.declared.fault.RunnerFault.TheVariants.{Unread, NoOpenSaga}
 use Rattle.runner.specs.Worlds.{World, full, by_view}
 use Rattle.runner.specs.Calls.{asked_answer, event_for, record_by, advance_by, advanced, restart_by}
 use Rattle.runner.specs.Mirrors.{Mirrors}
 use Rattle.runner.proofs.Mirroring.{Row}
-use Rattle.runner.proofs.Calling.{told_lawful}
+use Rattle.runner.proofs.Calling.{unready, told_lawful, told_same}
+use Rattle.runner.specs.declared.progress.Progress.{Progress}
 use Rattle.runner.specs.declared.moves.Call.{Call}
-use Rattle.runner.specs.declared.moves.Call.TheVariants.{Restart, Begin, Step as Orders, Mark, Join, Back, Finish, Cancel, Advance, Answer as Asks}
+use Rattle.runner.specs.declared.moves.Call.TheVariants.{Restart, Advance}
 use Rattle.runner.specs.declared.moves.Reach.{Reach}
 use Rattle.runner.specs.declared.moves.Reach.TheVariants.{Made, CutBefore, CutAfter}
 use Rattle.runner.specs.declared.moves.Move.{Move}
 use Rattle.runner.specs.Acts.{called, lost, act_by, act}
 use Rattle.rehearsal.specs.Shows.{open_saga, standing_of}
-use Rattle.rehearsal.specs.Keeps.{Start, Closing, completes, completed, makes_restart, is_restart, restarts_in}
-use Rattle.rehearsal.proofs.Costs.{Bare, Pends, Tidy, told_same}
-use Rattle.rehearsal.proofs.Looks.{note_other, note_own, re_noted, push_other, first_number, all_of, re_noted_open}
-use Rattle.rehearsal.proofs.Mirrored.{unready, mirrors_called, mirrors_act, mirrors_moves}
-use Rattle.rehearsal.proofs.Rooms.{Plain, Room, first_bare, room_start, room_moves, room_act}
+use Rattle.rehearsal.specs.Keeps.{Start, Closing, completes, completed, is_restart, restarts_in}
+use Rattle.rehearsal.proofs.Costs.{Bare}
+use Rattle.rehearsal.proofs.Looks.{note_other, note_own, re_noted, push_other, first_number, re_noted_open}
+use Rattle.rehearsal.proofs.Mirrored.{mirrors_called, mirrors_act, mirrors_moves}
+use Rattle.rehearsal.proofs.Rooms.{Plain, Room, row_keeps, room_start, room_moves, room_act}
 use Rattle.rehearsal.proofs.Answering.{open_is, open_plain, ended_way}
 use Rattle.rehearsal.proofs.Turns.{Turns, turned_by}
-use Rattle.rehearsal.proofs.Sounds.{Sound, closing, closing_of, take_last, never}
+use Rattle.rehearsal.proofs.Sounds.{closing, closing_of, stands_in}
 use Rattle.rehearsal.proofs.Histories.{Good, reading_good, ended_begun}
-use Rattle.rehearsal.proofs.Written.{begins_above, begins_is, lives, table_is, row_now, other_now}
+use Rattle.rehearsal.proofs.Written.{begins_above, begins_is, table_is, row_now, other_now}
 use Rattle.rehearsal.proofs.Standings.{mem_of}
 
 abbrev told : Memory → ℕ
-told Blank = 0
-told (Told y) = 1
+told None = 0
+told (Some y) = 1
 
 told_small : (m : Memory) → told m ≤ 1
-told_small Blank = omega arith
-told_small (Told y) = omega arith
+told_small None = omega arith
+told_small (Some y) = omega arith
 
 -- the record that tells of the pending step: one step fewer stands, and the saga stays on its way out
 back_closing : (g d : ℕ) (o : Option Step) → eqb d 0 ≡ true → is_open (retreat_by g d o) ≡ true → closing (retreat_by g d o) ≡ true
-back_closing g d None z h = never (sym (ap (λ (b : Bool). is_open (cond b Closed Running)) z) ∙ h)
-back_closing g d (Some t) z h =
-    cond_both (ltb g t.number) (Pending (Retreating g d) t) (back_at d) (λ (p : Phase). is_open p ≡ true → closing p ≡ true) (λ _ _. z) (λ _ k. never (sym (ap (λ (b : Bool). is_open (cond b Closed Running)) z) ∙ k)) h
+back_closing g d None z h = grind arith
+back_closing g d (Some t) z h = grind arith
 
 end_closing : (l : List Step) → is_open (finishing l) ≡ true → closing (finishing l) ≡ true
-end_closing [] h = never h
+end_closing [] h = absurd cc
 end_closing (t ∷ l) h = refl
 
 record Fewer (x z : Saga) : Type 0 where
@@ -77,17 +80,9 @@ module _ (n k : ℕ) (l : List Step) (ms : List ℕ) (oc : Outcome) where
   of p = saga n p k l ms oc
 
   told_of : (a : Aim) (t : Step) (y : Outcome) → Sound (of (Pending a t)) → closing (Pending a t) ≡ true → Fewer (of (Pending a t)) (next (of (Pending a t)) (event_for a t y))
-  told_of Stepping t y sound c = never c
-  told_of (Retreating g d) t y sound c =
-      let w = sound.waits.1 in
-      let size = ap length w.1 ∙ length-append w.0 (t ∷ []) in
-      let rest = ap (λ (m : List Step). length (take (length m - 1) m)) w.1 ∙ ap length (take_last w.0 t) in
-      record { closes = back_closing g d _ c; one = omega (arith, size, rest) }
-  told_of Finishing t y sound c =
-      let w = sound.waits in
-      let size = ap length w.1 in
-      let rest = ap (λ (m : List Step). length (remove m 0)) w.1 in
-      record { closes = end_closing (remove l 0); one = omega (arith, size, rest) }
+  told_of Stepping t y sound c = absurd cc
+  told_of (Retreating g d) t y sound c = record { closes = back_closing g d _ c; one = omega (arith, length-take (length l - 1) l, slice_get_within l (length l - 1) t sound.pends.0) }
+  told_of Finishing t y sound c = let some = slice_get_within l 0 t sound.pends in record { closes = end_closing (remove l 0); one = omega (arith, some, length-remove l 0 some) }
 
 told_fewer : (x : Saga) (a : Aim) (t : Step) (y : Outcome) → x.phase ≡ Pending a t → Sound x → closing x.phase ≡ true → Fewer x (next x (event_for a t y))
 told_fewer x a t y e =
@@ -115,10 +110,7 @@ weaker x s t (inr h) = let few = h.fewer in inr (record { row = h.row; is = h.is
 -- a world that is read, with a saga on its way out
 module _ (w : World) (ready : w.ready ≡ true) (m : Mirrors w) (good : Good w.records (bare w.table)) (s : ℕ) (x : Row) (f : first (of_saga s) w.table.rows ≡ Some x) (c : closing x.0.phase ≡ true) where
   begun_already : s ≤ w.table.top
-  begun_already =
-      let is = first_number s w.table.rows x f in
-      let low = all_of (λ (z : Bare). z.0.number ≤ w.table.top) s (bare w.table).rows (row_bare x) good.below (first_bare s w.table.rows x f) in
-      omega (arith, is, low)
+  begun_already = omega (arith, first_number s w.table.rows x f, (row_keeps w.table good.keeps s x f).0)
 
   rests : (t : Sagas Memory) → first (of_saga s) t.rows ≡ Some x → Falls x s 0 t
   rests t e = inr (record { row = x; is = e; closes = c; fewer = omega arith })
@@ -127,47 +119,47 @@ module _ (w : World) (ready : w.ready ≡ true) (m : Mirrors w) (good : Good w.r
   same_row r z g e = let g' : first (of_saga s) w.table.rows ≡ Some z = subst (λ (k : ℕ). first (of_saga k) w.table.rows ≡ Some z) e g in cc
 
   not_running : (r : ℕ) (z : Row) → first (of_saga r) w.table.rows ≡ Some z → z.0.phase ≡ Running → r ≡ s → ⊥
-  not_running r z g run e = never (sym (ap closing (sym (ap (λ (u : Row). u.0.phase) (same_row r z g e)) ∙ run)) ∙ c)
+  not_running r z g run e = let same = same_row r z g e in absurd (both_ways _ (ap closing run) (ap (λ (u : Row). closing u.0.phase) same ∙ c))
 
   -- a record of another saga
-  wrote_other : (r : ℕ) (e : Event) (z : Row) (g : first (of_saga r) w.table.rows ≡ Some z) → applied (count_of w.parties) r e Blank w.table ≡ moves (count_of w.parties) r e w.table → lawful (count_of w.parties) z.0 e ≡ true → (r ≡ s → ⊥) → first (of_saga s) (applied (count_of w.parties) r e Blank w.table).1.rows ≡ Some x
-  wrote_other r e z g same law d = other_now w good r e z g Blank same law s d ∙ f
+  wrote_other : (r : ℕ) (e : Event) (z : Row) (g : first (of_saga r) w.table.rows ≡ Some z) → applied (count_of w.parties) r e None w.table ≡ moves (count_of w.parties) r e w.table → lawful (count_of w.parties) z.0 e ≡ true → (r ≡ s → ⊥) → first (of_saga s) (applied (count_of w.parties) r e None w.table).1.rows ≡ Some x
+  wrote_other r e z g same law d = other_now w good r e z g None same law s d ∙ f
 
   noted_row : (r : ℕ) (v : Memory) (rows : List Row) → (r ≡ s → ⊥) → first (of_saga s) rows ≡ Some x → first (of_saga s) (renoted r v rows) ≡ Some x
   noted_row r v rows d e = note_other r s d v rows ∙ e
 
   -- the call for its pending step
-  asked_own : (v : Memory) → x.1 ≡ Blank → told (v) ≡ 1 → Falls x s 1 (noted s v w.table)
+  asked_own : (v : Memory) → x.1 ≡ None → told (v) ≡ 1 → Falls x s 1 (noted s v w.table)
   asked_own v blank is-told =
       let none = ap told blank in
       inr (record { row = (x.0, v); is = note_own s v w.table.rows ∙ ap (re_noted v) f; closes = c; fewer = omega (arith, none, is-told) })
 
   -- and its record
-  told_own : (v : Memory) (a : Aim) (t : Step) (y : Outcome) → x.0.phase ≡ Pending a t → x.1 ≡ Told y → v ≡ Blank → Falls x s 1 (noted s v (applied (count_of w.parties) s (event_for a t y) Blank w.table).1)
+  told_own : (v : Memory) (a : Aim) (t : Step) (y : Outcome) → x.0.phase ≡ Pending a t → x.1 ≡ Some y → v ≡ None → Falls x s 1 (noted s v (applied (count_of w.parties) s (event_for a t y) None w.table).1)
   told_own v a t y ph mem blank = go (is_open (next x.0 (event_for a t y)).phase) refl
     where
       law : lawful (count_of w.parties) x.0 (event_for a t y) ≡ true
       law = told_lawful (count_of w.parties) x.0 a t y ph
 
-      same : applied (count_of w.parties) s (event_for a t y) Blank w.table ≡ moves (count_of w.parties) s (event_for a t y) w.table
-      same = told_same (count_of w.parties) s a t y Blank w.table
+      same : applied (count_of w.parties) s (event_for a t y) None w.table ≡ moves (count_of w.parties) s (event_for a t y) w.table
+      same = told_same (count_of w.parties) s a t y None w.table
 
-      now : (b : Bool) → is_open (next x.0 (event_for a t y)).phase ≡ b → first (of_saga s) (renoted s v (applied (count_of w.parties) s (event_for a t y) Blank w.table).1.rows) ≡ cond b (Some (next x.0 (event_for a t y), v)) None
+      now : (b : Bool) → is_open (next x.0 (event_for a t y)).phase ≡ b → first (of_saga s) (renoted s v (applied (count_of w.parties) s (event_for a t y) None w.table).1.rows) ≡ cond b (Some (next x.0 (event_for a t y), v)) None
       now b e =
-          note_own s v (applied (count_of w.parties) s (event_for a t y) Blank w.table).1.rows
-          ∙ ap (re_noted v) (row_now w good s (event_for a t y) x f Blank same law ∙ ap (λ (o : Bool). cond o (Some (next x.0 (event_for a t y), x.1)) None) e)
+          note_own s v (applied (count_of w.parties) s (event_for a t y) None w.table).1.rows
+          ∙ ap (re_noted v) (row_now w good s (event_for a t y) x f None same law ∙ ap (λ (o : Bool). cond o (Some (next x.0 (event_for a t y), x.1)) None) e)
           ∙ re_noted_open b (next x.0 (event_for a t y)) x.1 v
 
       less : Fewer x.0 (next x.0 (event_for a t y))
-      less = told_fewer x.0 a t y ph (lives w good s x f).sound c
+      less = told_fewer x.0 a t y ph (row_keeps w.table good.keeps s x f).1 c
 
-      go : (b : Bool) → is_open (next x.0 (event_for a t y)).phase ≡ b → Falls x s 1 (noted s v (applied (count_of w.parties) s (event_for a t y) Blank w.table).1)
+      go : (b : Bool) → is_open (next x.0 (event_for a t y)).phase ≡ b → Falls x s 1 (noted s v (applied (count_of w.parties) s (event_for a t y) None w.table).1)
       go true e =
           let one = less.one in
           let was = ap told mem in
           let is-now = ap told blank in
           inr (record { row = (next x.0 (event_for a t y), v); is = now true e; closes = less.closes e; fewer = omega (arith, one, was, is-now) })
-      go false e = inl (now false e, subst (λ (q : Sagas Memory). s ≤ q.top) (sym (table_is w good s (event_for a t y) x f Blank same law)) begun_already)
+      go false e = inl (now false e, subst (λ (q : Sagas Memory). s ≤ q.top) (sym (table_is w good s (event_for a t y) x f None same law)) begun_already)
 
   -- a call that is made leaves it as near its end or nearer
   abbrev Leaves : World → List (ℕ × Entry) → Type 0
@@ -175,25 +167,27 @@ module _ (w : World) (ready : w.ready ≡ true) (m : Mirrors w) (good : Good w.r
 
   turns : Turns w Leaves
   turns = record {
-    same = (ready, rests w.table f);
-    began = λ r e may l.
-        let above = begins_above r w.table may in
-        let low = begun_already in
-        let d : r ≡ s → ⊥ = λ q. omega (arith, q, above, low) in
-        (ready, rests _ (ap (λ (t : Sagas Memory). first (of_saga s) t.rows) (begins_is r w.table may) ∙ push_other r s d (begun r, Blank) refl w.table.rows ∙ f));
-    stepped = λ r t z g run law l. (ready, rests _ (wrote_other r (Intent t) z g.1 refl law (not_running r z g.1 run)));
-    marked = λ r z g run law l. (ready, rests _ (wrote_other r Marks z g.1 refl law (not_running r z g.1 run)));
-    joined = λ r z g run law l. (ready, rests _ (wrote_other r Joins z g.1 refl law (not_running r z g.1 run)));
-    backed = λ r d z g run law l. (ready, rests _ (wrote_other r (Backs d) z g.1 refl law (not_running r z g.1 run)));
-    finished = λ r z g run law. (ready, rests _ (wrote_other r Finishes z g.1 refl law (not_running r z g.1 run)));
-    cancelled = λ r z g run law. (ready, rests _ (wrote_other r (Backs 0) z g.1 refl law (not_running r z g.1 run)));
+    writes = record {
+      same = (ready, rests w.table f);
+      began = λ r e may l.
+          let above = begins_above r w.table may in
+          let low = begun_already in
+          let d : r ≡ s → ⊥ = λ q. omega (arith, q, above, low) in
+          (ready, rests _ (ap (λ (t : Sagas Memory). first (of_saga s) t.rows) (begins_is r w.table may) ∙ push_other r s d (begun r, None) refl w.table.rows ∙ f));
+      stepped = λ r t z g run law l. (ready, rests _ (wrote_other r (Intent t) z g.1 refl law (not_running r z g.1 run)));
+      marked = λ r z g run law l. (ready, rests _ (wrote_other r Marks z g.1 refl law (not_running r z g.1 run)));
+      joined = λ r z g run law l. (ready, rests _ (wrote_other r Joins z g.1 refl law (not_running r z g.1 run)));
+      backed = λ r d z g run law l. (ready, rests _ (wrote_other r (Backs d) z g.1 refl law (not_running r z g.1 run)));
+      finished = λ r z g run law. (ready, rests _ (wrote_other r Finishes z g.1 refl law (not_running r z g.1 run)));
+      cancelled = λ r z g run law. (ready, rests _ (wrote_other r (Backs 0) z g.1 refl law (not_running r z g.1 run)));
+    };
     asked = λ r a t z g ph mem. (
       ready,
       ⊎_elim
           (λ (e : r ≡ s).
-          let blank : x.1 ≡ Blank = ap (λ (q : Row). q.1) (sym (same_row r z g.1 e)) ∙ mem in
-          subst (λ (k : ℕ). Falls x s 0 (noted k (Told (asked_answer a w.parties r t)) w.table)) (sym e) (weaker x s _ (asked_own (Told (asked_answer a w.parties r t)) blank refl)))
-          (λ (d : r ≡ s → ⊥). rests _ (noted_row r (Told (asked_answer a w.parties r t)) w.table.rows d f))
+          let blank : x.1 ≡ None = ap (λ (q : Row). q.1) (sym (same_row r z g.1 e)) ∙ mem in
+          subst (λ (k : ℕ). Falls x s 0 (noted k (Some (asked_answer a w.parties r t)) w.table)) (sym e) (weaker x s _ (asked_own (Some (asked_answer a w.parties r t)) blank refl)))
+          (λ (d : r ≡ s → ⊥). rests _ (noted_row r (Some (asked_answer a w.parties r t)) w.table.rows d f))
           (cases_eq r s),
     );
     told = λ r a t y z g ph mem. (
@@ -202,39 +196,39 @@ module _ (w : World) (ready : w.ready ≡ true) (m : Mirrors w) (good : Good w.r
           (λ (e : r ≡ s).
           let is = same_row r z g.1 e in
           let ph' : x.0.phase ≡ Pending a t = ap (λ (q : Row). q.0.phase) (sym is) ∙ ph in
-          let mem' : x.1 ≡ Told y = ap (λ (q : Row). q.1) (sym is) ∙ mem in
-          subst (λ (k : ℕ). Falls x s 0 (noted k Blank (applied (count_of w.parties) k (event_for a t y) Blank w.table).1)) (sym e) (weaker x s _ (told_own Blank a t y ph' mem' refl)))
-          (λ (d : r ≡ s → ⊥). rests _ (noted_row r Blank _ d (wrote_other r (event_for a t y) z g.1 (told_same (count_of w.parties) r a t y Blank w.table) (told_lawful (count_of w.parties) z.0 a t y ph) d)))
+          let mem' : x.1 ≡ Some y = ap (λ (q : Row). q.1) (sym is) ∙ mem in
+          subst (λ (k : ℕ). Falls x s 0 (noted k None (applied (count_of w.parties) k (event_for a t y) None w.table).1)) (sym e) (weaker x s _ (told_own None a t y ph' mem' refl)))
+          (λ (d : r ≡ s → ⊥). rests _ (noted_row r None _ d (wrote_other r (event_for a t y) z g.1 (told_same (count_of w.parties) r a t y None w.table) (told_lawful (count_of w.parties) z.0 a t y ph) d)))
           (cases_eq r s),
     );
   }
 
   -- an advance of its own that answers brings it one nearer
-  abbrev Advances : Result ℕ RunnerFault × World → Type 0
+  abbrev Advances : Result Progress RunnerFault × World → Type 0
   Advances y = (y.1.ready ≡ true) × Falls x s (cond (is_ok y.0) 1 0) y.1.table
 
   advances_by : (p : Phase) (k : Memory) → x.0.phase ≡ p → x.1 ≡ k → Advances (advance_by s w p k)
   advances_by Running k e q = (ready, rests w.table f)
   advances_by Closed k e q = (ready, rests w.table f)
-  advances_by (Pending a t) Blank e q = (ready, asked_own (Told (asked_answer a w.parties s t)) q refl)
-  advances_by (Pending a t) (Told y) e q =
-      cond_both (full w) _ _ (λ (z : Result Unit RunnerFault × World). Advances (record_by s z)) (λ _. (ready, rests w.table f)) (λ _. (ready, told_own Blank a t y e q refl))
+  advances_by (Pending a t) None e q = (ready, asked_own (Some (asked_answer a w.parties s t)) q refl)
+  advances_by (Pending a t) (Some y) e q =
+      cond_both (full w) _ _ (λ (z : Result Unit RunnerFault × World). Advances (record_by s z)) (λ _. (ready, rests w.table f)) (λ _. (ready, told_own None a t y e q refl))
 
   advances : Advances (advanced s w)
   advances =
       let go = λ (seen : View Memory). advance_by s w seen.phase seen.note in
       let is : advanced s w ≡ advance_by s w x.0.phase x.1 =
-      ap (λ (b : Bool). cond {A = Result ℕ RunnerFault × World} b (by_view (view s w.table) (Err NoOpenSaga, w) go) (Err Unread, w)) ready
+      ap (λ (b : Bool). cond {A = Result Progress RunnerFault × World} b (by_view (view s w.table) (Err NoOpenSaga, w) go) (Err Unread, w)) ready
       ∙ ap (λ (o : Option Row). by_view (option_map view_of o) (Err NoOpenSaga, w) go) f in
       subst Advances (sym is) (advances_by x.0.phase x.1 refl refl)
 
 -- a closed saga does not open again
 module _ (w : World) (ready : w.ready ≡ true) (m : Mirrors w) (good : Good w.records (bare w.table)) (s : ℕ) (gone : GoneIn s w.table) where
   apart : (r : ℕ) (z : Row) → first (of_saga r) w.table.rows ≡ Some z → r ≡ s → ⊥
-  apart r z g e = let g' : first (of_saga s) w.table.rows ≡ Some z = subst (λ (k : ℕ). first (of_saga k) w.table.rows ≡ Some z) e g in let no' = gone.0 in let k : ◌≡◌ {A = ℕ} 0 1 = cc in omega arith
+  apart r z g e = let g' : first (of_saga s) w.table.rows ≡ Some z = subst (λ (k : ℕ). first (of_saga k) w.table.rows ≡ Some z) e g in let no' = gone.0 in absurd cc
 
-  wrote_gone : (r : ℕ) (e : Event) (z : Row) (g : first (of_saga r) w.table.rows ≡ Some z) → applied (count_of w.parties) r e Blank w.table ≡ moves (count_of w.parties) r e w.table → lawful (count_of w.parties) z.0 e ≡ true → GoneIn s (applied (count_of w.parties) r e Blank w.table).1
-  wrote_gone r e z g same law = (other_now w good r e z g Blank same law s (apart r z g) ∙ gone.0, subst (λ (q : Sagas Memory). s ≤ q.top) (sym (table_is w good r e z g Blank same law)) gone.1)
+  wrote_gone : (r : ℕ) (e : Event) (z : Row) (g : first (of_saga r) w.table.rows ≡ Some z) → applied (count_of w.parties) r e None w.table ≡ moves (count_of w.parties) r e w.table → lawful (count_of w.parties) z.0 e ≡ true → GoneIn s (applied (count_of w.parties) r e None w.table).1
+  wrote_gone r e z g same law = (other_now w good r e z g None same law s (apart r z g) ∙ gone.0, subst (λ (q : Sagas Memory). s ≤ q.top) (sym (table_is w good r e z g None same law)) gone.1)
 
   noted_gone : (r : ℕ) (v : Memory) (t : Sagas Memory) → (r ≡ s → ⊥) → GoneIn s t → GoneIn s (noted r v t)
   noted_gone r v t d h = (note_other r s d v t.rows ∙ h.0, h.1)
@@ -244,38 +238,41 @@ module _ (w : World) (ready : w.ready ≡ true) (m : Mirrors w) (good : Good w.r
 
   gone_turns : Turns w StaysGone
   gone_turns = record {
-    same = (ready, gone);
-    began = λ r e may l.
-        let above = begins_above r w.table may in
-        let low = gone.1 in
-        let d : r ≡ s → ⊥ = λ q. omega (arith, q, above, low) in
-        (ready, subst (GoneIn s) (sym (begins_is r w.table may)) (push_other r s d (begun r, Blank) refl w.table.rows ∙ gone.0, omega (arith, above, low)));
-    stepped = λ r t z g run law l. (ready, wrote_gone r (Intent t) z g.1 refl law);
-    marked = λ r z g run law l. (ready, wrote_gone r Marks z g.1 refl law);
-    joined = λ r z g run law l. (ready, wrote_gone r Joins z g.1 refl law);
-    backed = λ r d z g run law l. (ready, wrote_gone r (Backs d) z g.1 refl law);
-    finished = λ r z g run law. (ready, wrote_gone r Finishes z g.1 refl law);
-    cancelled = λ r z g run law. (ready, wrote_gone r (Backs 0) z g.1 refl law);
+    writes = record {
+      same = (ready, gone);
+      began = λ r e may l.
+          let above = begins_above r w.table may in
+          let low = gone.1 in
+          let d : r ≡ s → ⊥ = λ q. omega (arith, q, above, low) in
+          (ready, subst (GoneIn s) (sym (begins_is r w.table may)) (push_other r s d (begun r, None) refl w.table.rows ∙ gone.0, omega (arith, above, low)));
+      stepped = λ r t z g run law l. (ready, wrote_gone r (Intent t) z g.1 refl law);
+      marked = λ r z g run law l. (ready, wrote_gone r Marks z g.1 refl law);
+      joined = λ r z g run law l. (ready, wrote_gone r Joins z g.1 refl law);
+      backed = λ r d z g run law l. (ready, wrote_gone r (Backs d) z g.1 refl law);
+      finished = λ r z g run law. (ready, wrote_gone r Finishes z g.1 refl law);
+      cancelled = λ r z g run law. (ready, wrote_gone r (Backs 0) z g.1 refl law);
+    };
     asked = λ r a t z g ph mem. (ready, noted_gone r _ w.table (apart r z g.1) gone);
     told = λ r a t y z g ph mem.
-        (ready, noted_gone r Blank _ (apart r z g.1) (wrote_gone r (event_for a t y) z g.1 (told_same (count_of w.parties) r a t y Blank w.table) (told_lawful (count_of w.parties) z.0 a t y ph)));
+        (ready, noted_gone r None _ (apart r z g.1) (wrote_gone r (event_for a t y) z g.1 (told_same (count_of w.parties) r a t y None w.table) (told_lawful (count_of w.parties) z.0 a t y ph)));
   }
 
 -- a runner that has read nothing does nothing but restart
 idle_turns : (w : World) → w.ready ≡ false → Turns w (λ (v : World) (_ : List (ℕ × Entry)). v ≡ w)
 idle_turns w off =
-    let no' : w.ready ≡ true → false ≡ true = λ e. sym off ∙ e in
     record {
-      same = refl;
-      began = λ s e may l. never (no' e);
-      stepped = λ s t x f run law l. never (no' f.0);
-      marked = λ s x f run law l. never (no' f.0);
-      joined = λ s x f run law l. never (no' f.0);
-      backed = λ s d x f run law l. never (no' f.0);
-      finished = λ s x f run law. never (no' f.0);
-      cancelled = λ s x f run law. never (no' f.0);
-      asked = λ s a t x f ph mem. never (no' f.0);
-      told = λ s a t y x f ph mem. never (no' f.0);
+      writes = record {
+        same = refl;
+        began = λ s e may l. absurd (both_ways w.ready off e);
+        stepped = λ s t x f run law l. absurd (both_ways w.ready off f.0);
+        marked = λ s x f run law l. absurd (both_ways w.ready off f.0);
+        joined = λ s x f run law l. absurd (both_ways w.ready off f.0);
+        backed = λ s d x f run law l. absurd (both_ways w.ready off f.0);
+        finished = λ s x f run law. absurd (both_ways w.ready off f.0);
+        cancelled = λ s x f run law. absurd (both_ways w.ready off f.0);
+      };
+      asked = λ s a t x f ph mem. absurd (both_ways w.ready off f.0);
+      told = λ s a t y x f ph mem. absurd (both_ways w.ready off f.0);
     }
 
 -- of the world: whatever the runner has read, by the law's reading of the journal
@@ -307,12 +304,12 @@ abbrev Further : World → World → ℕ → ℕ → ℕ → Type 0
 Further w v s n b = Over s v ⊎ Nears w v s n b
 
 closing_row : (s : ℕ) (rows : List Row) (o : Option Row) → first (of_saga s) rows ≡ o → closing_of (option_map (λ (x : Row). x.0) o) ≡ true → (x : Row) × (first (of_saga s) rows ≡ Some x) × (closing x.0.phase ≡ true)
-closing_row s rows None f h = never h
+closing_row s rows None f h = absurd cc
 closing_row s rows (Some x) f h = (x, f, h)
 
 gone_row : (o : Option Row) → ◌≡◌ {A = Option Saga} (option_map (λ (x : Row). x.0) o) None → o ≡ None
 gone_row None h = refl
-gone_row (Some x) h = let k : ◌≡◌ {A = ℕ} 0 1 = cc in absurd (omega arith)
+gone_row (Some x) h = absurd cc
 
 good_of : (w : World) → Mirrors w → w.ready ≡ true → Good w.records (bare w.table)
 good_of w m e = reading_good (count_of w.parties) w.records (bare w.table) (m e)
@@ -344,23 +341,8 @@ further_from w v s n x m e f m' e' (inr h) =
     inr (record { closes = ap closing_of (open_row v s m' e' h.row h.is) ∙ h.closes; fewer = omega (arith, a, b, a', b', few) })
 
 restart_or : (k : Call) → (k ≡ Restart) ⊎ (k ≡ Restart → ⊥)
-restart_or k = go (makes_restart k) refl
-  where
-    is : (q : Call) → makes_restart q ≡ true → q ≡ Restart
-    is Restart h = refl
-    is (Begin n) h = never h
-    is (Orders n p q) h = never h
-    is (Mark n) h = never h
-    is (Join n) h = never h
-    is (Back n d) h = never h
-    is (Finish n) h = never h
-    is (Cancel n) h = never h
-    is (Advance n) h = never h
-    is (Asks n) h = never h
-
-    go : (b : Bool) → makes_restart k ≡ b → (k ≡ Restart) ⊎ (k ≡ Restart → ⊥)
-    go true e = inl (is k e)
-    go false e = inr (λ q. never (sym e ∙ ap makes_restart q))
+restart_or Restart = inl refl
+restart_or k = inr (λ q. absurd cc)
 
 module _ (w : World) (m : Mirrors w) (s : ℕ) (c : closing_of (open_saga s w) ≡ true) where
   found : w.ready ≡ true → (x : Row) × (first (of_saga s) w.table.rows ≡ Some x) × (closing x.0.phase ≡ true)
@@ -390,8 +372,8 @@ module _ (w : World) (m : Mirrors w) (s : ℕ) (c : closing_of (open_saga s w) �
           further_from w (advanced s w).1 s (cond (is_ok (advanced s w).0) 1 0) x.0 m e x.1 (mirrors_called w (Advance s) m) y.0 y.1
       go false e =
           let go' = λ (seen : View Memory). advance_by s w seen.phase seen.note in
-          let is : advanced s w ≡ (Err Unread, w) = ap (λ (b : Bool). cond {A = Result ℕ RunnerFault × World} b (by_view (view s w.table) (Err NoOpenSaga, w) go') (Err Unread, w)) e in
-          subst (λ (y : Result ℕ RunnerFault × World). Further w y.1 s (cond (is_ok y.0) 1 0) 0) (sym is) (inr (record { closes = c; fewer = omega arith }))
+          let is : advanced s w ≡ (Err Unread, w) = ap (λ (b : Bool). cond {A = Result Progress RunnerFault × World} b (by_view (view s w.table) (Err NoOpenSaga, w) go') (Err Unread, w)) e in
+          subst (λ (y : Result Progress RunnerFault × World). Further w y.1 s (cond (is_ok y.0) 1 0) 0) (sym is) (inr (record { closes = c; fewer = omega arith }))
 
   advance_nears : (n : ℕ) → Further w (advanced n w).1 s (completes s w (Advance n) Made) 0
   advance_nears n = ⊎_elim
@@ -400,7 +382,7 @@ module _ (w : World) (m : Mirrors w) (s : ℕ) (c : closing_of (open_saga s w) �
       subst (λ (k : ℕ). Further w (advanced k w).1 s (completes s w (Advance k) Made) 0) e (subst (λ (k : ℕ). Further w (advanced s w).1 s k 0) (sym count) own_nears))
       (λ (d : s ≡ n → ⊥).
       let count : completes s w (Advance n) Made ≡ 0 = ap (λ (b : Bool). cond (b && is_ok (advanced n w).0) 1 0) (ne_eqb n s (λ q. d (sym q))) in
-      subst (λ (k : ℕ). Further w (advanced n w).1 s k 0) (sym count) (call_nears (Advance n) (λ q. never (ap makes_restart q))))
+      subst (λ (k : ℕ). Further w (advanced n w).1 s k 0) (sym count) (call_nears (Advance n) (λ q. absurd cc)))
       (cases_eq s n)
 
   restart_nears : (y : Result (Sagas Memory) ℕ) → Further w (restart_by w y).1 s 0 1
@@ -408,16 +390,9 @@ module _ (w : World) (m : Mirrors w) (s : ℕ) (c : closing_of (open_saga s w) �
   restart_nears (Ok t) = let k = slack_small w s in cond_both (ltb (w.capacity - length w.records) (owed t)) _ _ (λ (z : Result ℕ RunnerFault × World). Further w z.1 s 0 1) (λ _. inr (record { closes = c; fewer = omega (arith, k) })) (λ _. inr (record { closes = c; fewer = omega (arith, k) }))
 
   made_nears : (k : Call) → Further w (called w k) s (completes s w k Made) (cond (is_restart k Made) 1 0)
-  made_nears Restart = restart_nears (reading (count_of w.parties) Blank w.records)
-  made_nears (Begin n) = call_nears (Begin n) (λ q. never (ap makes_restart q))
-  made_nears (Orders n p q) = call_nears (Orders n p q) (λ q. never (ap makes_restart q))
-  made_nears (Mark n) = call_nears (Mark n) (λ q. never (ap makes_restart q))
-  made_nears (Join n) = call_nears (Join n) (λ q. never (ap makes_restart q))
-  made_nears (Back n d) = call_nears (Back n d) (λ q. never (ap makes_restart q))
-  made_nears (Finish n) = call_nears (Finish n) (λ q. never (ap makes_restart q))
-  made_nears (Cancel n) = call_nears (Cancel n) (λ q. never (ap makes_restart q))
+  made_nears Restart = restart_nears (reading (count_of w.parties) None w.records)
   made_nears (Advance n) = advance_nears n
-  made_nears (Asks n) = call_nears (Asks n) (λ q. never (ap makes_restart q))
+  made_nears k = call_nears k (λ q. absurd cc)
 
   -- a call that is cut
   lost_nears : (v : World) → Further w v s 0 0 → Further w (lost v) s 0 0
@@ -430,7 +405,7 @@ module _ (w : World) (m : Mirrors w) (s : ℕ) (c : closing_of (open_saga s w) �
 
   cut_nears : (k : Call) → Further w (lost (called w k)) s 0 0
   cut_nears k = ⊎_elim
-      (λ (e : k ≡ Restart). subst (λ (q : Call). Further w (lost (called w q)) s 0 0) (sym e) (lost_restart (reading (count_of w.parties) Blank w.records)))
+      (λ (e : k ≡ Restart). subst (λ (q : Call). Further w (lost (called w q)) s 0 0) (sym e) (lost_restart (reading (count_of w.parties) None w.records)))
       (λ (d : k ≡ Restart → ⊥). lost_nears (called w k) (call_nears k d))
       (restart_or k)
 
@@ -446,7 +421,7 @@ over_restart w s o (Ok t) = cond_both (ltb (w.capacity - length w.records) (owed
 
 over_called : (w : World) (s : ℕ) (k : Call) → Mirrors w → Over s w → Over s (called w k)
 over_called w s k m o = ⊎_elim
-    (λ (e : k ≡ Restart). subst (λ (q : Call). Over s (called w q)) (sym e) (over_restart w s o (reading (count_of w.parties) Blank w.records)))
+    (λ (e : k ≡ Restart). subst (λ (q : Call). Over s (called w q)) (sym e) (over_restart w s o (reading (count_of w.parties) None w.records)))
     (λ (d : k ≡ Restart → ⊥). go d w.ready refl)
     (restart_or k)
   where
@@ -468,25 +443,14 @@ over_moves : (w : World) (s : ℕ) (ms : List Move) → Mirrors w → Over s w �
 over_moves w s [] m o = o.0
 over_moves w s (c ∷ ms) m o = over_moves (act w c) s ms (mirrors_act w c.call c.reach m) (over_act w s c.call c.reach m o)
 
--- something stands of a saga on its way out
-stands_in : (p : Phase) (l : List Step) → Pends p l → closing p ≡ true → 1 ≤ length l
-stands_in Running l h c = never c
-stands_in Closed l h c = never c
-stands_in (Pending Stepping t) l h c = never c
-stands_in (Pending (Retreating g d) t) l h c = h
-stands_in (Pending Finishing t) l h c = h
-
 some_stand : (w : World) (s : ℕ) → Room w → closing_of (open_saga s w) ≡ true → 1 ≤ length (standing_of (open_saga s w))
 some_stand w s r c =
     let is = open_plain w s r in
     subst (λ (o : Option Saga). 1 ≤ length (standing_of o)) (sym is) (go (first (of_saga s) r.table.rows) refl (sym (ap closing_of is) ∙ c))
   where
     go : (o : Option Bare) → first (of_saga s) r.table.rows ≡ o → closing_of (option_map (λ (x : Bare). x.0) o) ≡ true → 1 ≤ length (standing_of (option_map (λ (x : Bare). x.0) o))
-    go None f k = never k
-    go (Some x) f k = stands_in x.0.phase x.0.standing (all_of (λ (z : Bare). Tidy z.0) s r.table.rows x r.fine.tidy f) k
-
-not_none : (o : Option Saga) → o ≡ None → is_some o ≡ true → ⊥
-not_none o e h = never (sym (ap is_some e) ∙ h)
+    go None f k = absurd cc
+    go (Some x) f k = stands_in x.0.phase x.0.last x.0.standing (keeps_row s r.table x (readings.keeps (count_of w.parties) tt w.records r.table r.reads) f).1.pends k
 
 bounded : (w : World) (s : ℕ) (ms : List Move) → Room w → Mirrors w → closing_of (open_saga s w) ≡ true → is_some (open_saga s (fold act w ms)) ≡ true → completed s w ms + slack w s < size w s + restarts_in ms
 bounded w s [] r m c o = let some = some_stand w s r c in let k = slack_small w s in omega (arith, some, k)
@@ -494,7 +458,7 @@ bounded w s (d ∷ ms) r m c o =
     go (act_nears w m s c d.call d.reach) (bounded (act w d) s ms (room_act w d.call d.reach r m) (mirrors_act w d.call d.reach m))
   where
     go : Further w (act w d) s (completes s w d.call d.reach) (cond (is_restart d.call d.reach) 1 0) → (closing_of (open_saga s (act w d)) ≡ true → is_some (open_saga s (fold act (act w d) ms)) ≡ true → completed s (act w d) ms + slack (act w d) s < size (act w d) s + restarts_in ms) → completed s w (d ∷ ms) + slack w s < size w s + restarts_in (d ∷ ms)
-    go (inl over) ih = absurd (not_none (open_saga s (fold act (act w d) ms)) (over_moves (act w d) s ms (mirrors_act w d.call d.reach m) over) o)
+    go (inl over) ih = absurd (both_ways _ (ap is_some (over_moves (act w d) s ms (mirrors_act w d.call d.reach m) over)) o)
     go (inr h) ih =
         let rest = ih h.closes o in
         let few = h.fewer in
@@ -510,6 +474,6 @@ closing_kept w ms h s front rest e out o =
     ⊎_elim
     (λ (shut : open_saga s v ≡ None).
     let over : Over s v = (shut, subst (λ (t : Result Plain ℕ). s ≤ top_in t) (sym r.reads) (ended_begun (count_of v.parties) v.records r.table r.reads s out)) in
-    absurd (not_none (open_saga s (fold act v rest)) (over_moves v s rest m' over) o))
+    absurd (both_ways _ (ap is_some (over_moves v s rest m' over)) o))
     (λ (c : closing_of (open_saga s v) ≡ true). let k = bounded v s rest r m' c o in omega (arith, k))
     (ended_way v s r out)

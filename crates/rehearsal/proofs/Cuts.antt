@@ -15,7 +15,7 @@ module _ {X : Type 0} (p q : X → Bool) where
 
 module _ {X : Type 0} (p : X → Bool) where
   pub sum_cut : (f : X → ℕ) (d : X) (xs : List X) → any p xs ≡ true → f (pick p d xs) + sum_by f (cut p xs) ≡ sum_by f xs
-  sum_cut f d [] h = absurd (let z : ◌≡◌ {A = ℕ} 0 1 = cc in omega arith)
+  sum_cut f d [] h = absurd cc
   sum_cut f d (x ∷ xs) h = grind (arith, sum_cut f d xs, sum_by-cons f x xs, sum_by-cons f x (cut p xs))
 
   pub cut_none : (xs : List X) → any p xs ≡ false → cut p xs ≡ xs
@@ -23,12 +23,12 @@ module _ {X : Type 0} (p : X → Bool) where
   cut_none (x ∷ xs) h = grind (arith, cut_none xs)
 
   pub pick_passes : (d : X) (xs : List X) → any p xs ≡ true → p (pick p d xs) ≡ true
-  pick_passes d [] h = absurd (let z : ◌≡◌ {A = ℕ} 0 1 = cc in omega arith)
+  pick_passes d [] h = absurd cc
   pick_passes d (x ∷ xs) h = grind (arith, pick_passes d xs)
 
   -- one more item at the end
   pub pick_push_old : (d y : X) (xs : List X) → any p xs ≡ true → pick p d (xs ++ y ∷ []) ≡ pick p d xs
-  pick_push_old d y [] h = absurd (let z : ◌≡◌ {A = ℕ} 0 1 = cc in omega arith)
+  pick_push_old d y [] h = absurd cc
   pick_push_old d y (x ∷ xs) h = grind (arith, pick_push_old d y xs)
 
   pub pick_push_new : (d y : X) (xs : List X) → any p xs ≡ false → p y ≡ true → pick p d (xs ++ y ∷ []) ≡ y
@@ -36,7 +36,7 @@ module _ {X : Type 0} (p : X → Bool) where
   pick_push_new d y (x ∷ xs) h e = grind (arith, pick_push_new d y xs)
 
   pub any_push_old : (y : X) (xs : List X) → any p xs ≡ true → any p (xs ++ y ∷ []) ≡ true
-  any_push_old y [] h = absurd (let z : ◌≡◌ {A = ℕ} 0 1 = cc in omega arith)
+  any_push_old y [] h = absurd cc
   any_push_old y (x ∷ xs) h = grind (arith, any_push_old y xs)
 
   pub any_push_new : (y : X) (xs : List X) → p y ≡ true → any p (xs ++ y ∷ []) ≡ true

@@ -1,22 +1,21 @@
 -- What a call to a participant leaves at it, and that it leaves the others alone.
-use Rattle.std.proofs.Common.{◌≡◌, ℕ, zero, suc, ◌+◌, ◌-◌, ◌≤◌, Bool, true, false, cond, not, eqb, leb, ◌⊎◌, List, [], ◌∷◌, ◌++◌, map, length, get_or, Some, Option, sym, refl, ap, ◌∙◌, subst, inl, inr, arith}
+use Rattle.std.proofs.Common.{◌≡◌, ℕ, zero, suc, ◌+◌, ◌-◌, ◌≤◌, Bool, true, false, cond, not, eqb, leb, ◌⊎◌, List, [], ◌∷◌, ◌++◌, map, length, get_or, Some, Option, sym, refl, ap, ◌∙◌, subst, inl, inr, arith, Err, Ok}
 use Rattle.std.proofs.lemmas.List.Sums.{sum_by_push}
 use Rattle.std.proofs.lemmas.Bool.{cond_both, cond-true, cond-false, eqb-true, eqb-false, or_parts, ltb-false}
+use Rattle.std.proofs.lemmas.Bool.Decides.{nat_tests}
 use Rattle.bounded.specs.Firsts.{any, pick, cut}
 use Rattle.terms.specs.declared.Entry.{Entry}
 use Rattle.terms.specs.declared.Request.{Request}
 use Rattle.terms.specs.declared.Refusal.{Refusal}
 use Rattle.terms.specs.declared.Refusal.TheVariants.{Unfit, OtherRequest, Full, Short, Above}
-use Rattle.participants.specs.declared.answer.Answer.{Answer}
-use Rattle.participants.specs.declared.answer.Answer.TheVariants.{Done, Already, Refused}
+use Rattle.participants.specs.declared.answer.Accepted.TheVariants.{Done, Already}
 use Rattle.participants.specs.declared.cell.Cell.{Cell}
 use Rattle.participants.specs.declared.cell.Side.{Side}
 use Rattle.participants.specs.declared.cell.Side.TheVariants.{Take, Give}
 use Rattle.participants.specs.Effects.{takes, gives, effect, taken, given, fitting}
-use Rattle.participants.specs.Party.{Party, is_key, same_request, short, above, new_answer, do_answer, lowered, raised, after_answer, do_after, taken_off, undo_after, settle_after, no_entry, value_in, value_of}
+use Rattle.participants.specs.Party.{Party, Answer, is_key, same_request, short, above, new_answer, do_answer, lowered, raised, after_answer, do_after, taken_off, undo_after, settle_after, no_entry, value_in, value_of}
 use Rattle.participants.proofs.Judged.{accepts}
 use Rattle.bank.specs.Banks.{nobody, party_at, change, change_at}
-use Rattle.law.specs.declared.event.Outcome.TheVariants.{Done as WentWell, Refused as WentNot}
 use Rattle.law.specs.declared.event.Aim.{Aim}
 use Rattle.law.specs.declared.event.Aim.TheVariants.{Stepping, Retreating, Finishing}
 use Rattle.law.specs.declared.event.Step.{Step}
@@ -66,7 +65,7 @@ off_entries side p s k = grind (arith, cut_none (is_key (key s k)) p.entries)
 
 -- cells
 value_lower : (c v : ℕ) (q : Request) (cells : List Cell) → any (short q) cells ≡ false → value_in c cells ≡ Some v → (value_in c (map (lowered q) cells) ≡ Some (v - takes c q)) × (takes c q ≤ v)
-value_lower c v q [] s h = let z : ◌≡◌ {A = ℕ} 0 1 = cc in absurd (omega arith)
+value_lower c v q [] s h = absurd cc
 value_lower c v q (x ∷ cells) s h = go (eqb x.number c) refl (value_lower c v q cells) h
   where
     go : (b : Bool) → eqb x.number c ≡ b → (any (short q) cells ≡ false → value_in c cells ≡ Some v → (value_in c (map (lowered q) cells) ≡ Some (v - takes c q)) × (takes c q ≤ v)) → ◌≡◌ {A = Option ℕ} (cond b (Some x.value) (value_in c cells)) (Some v) → (◌≡◌ {A = Option ℕ} (cond b (Some (x.value - takes x.number q)) (value_in c (map (lowered q) cells))) (Some (v - takes c q))) × (takes c q ≤ v)
@@ -79,15 +78,8 @@ value_lower c v q (x ∷ cells) s h = go (eqb x.number c) refl (value_lower c v 
     go false e ih k = ih (or_parts _ _ s).1 k
 
 value_raise : (side : Side) (c v : ℕ) (q : Request) (cells : List Cell) → value_in c cells ≡ Some v → value_in c (map (raised side q) cells) ≡ Some (v + effect side c q)
-value_raise side c v q [] h = let z : ◌≡◌ {A = ℕ} 0 1 = cc in absurd (omega arith)
-value_raise side c v q (x ∷ cells) h = go (eqb x.number c) refl (value_raise side c v q cells) h
-  where
-    go : (b : Bool) → eqb x.number c ≡ b → (value_in c cells ≡ Some v → value_in c (map (raised side q) cells) ≡ Some (v + effect side c q)) → ◌≡◌ {A = Option ℕ} (cond b (Some x.value) (value_in c cells)) (Some v) → ◌≡◌ {A = Option ℕ} (cond b (Some (x.value + effect side x.number q)) (value_in c (map (raised side q) cells))) (Some (v + effect side c q))
-    go true e ih k =
-        let is : x.number ≡ c = eqb-true x.number c e in
-        let same : x.value ≡ v = cc in
-        ap Some (ap (λ (n : ℕ). n + effect side x.number q) same ∙ ap (λ (n : ℕ). v + effect side n q) is)
-    go false e ih k = ih k
+value_raise side c v q [] h = absurd cc
+value_raise side c v q (x ∷ cells) h = grind (arith, nat_tests, value_raise side c v q cells)
 
 -- what a call leaves at its participant, beside what a settle took off: the worth of a cell of value v
 abbrev pub Even : ℕ → ℕ → Party → Party → List Entry → Type 0
@@ -106,13 +98,13 @@ module _ (c v : ℕ) (p : Party) (cell : value_of p c ≡ Some v) where
   done_even e = go (do_answer p e) refl
     where
       go : (a : Answer) → do_answer p e ≡ a → Even c v p (after_answer a p e) []
-      go Done h =
+      go (Ok Done) h =
           let x = value_lower c v e.request p.cells (accepts p e (sym h)).covered cell in
           let le = x.1 in
           let more = sum_by_push (λ (d : Entry). takes c d.request) p.entries e in
           (v - takes c e.request, x.0, omega (arith, le, more))
-      go Already h = stays_even
-      go (Refused r) h = stays_even
+      go (Ok Already) h = stays_even
+      go (Err r) h = stays_even
 
   undone_even : (s k : ℕ) → Even c v p (undo_after p (key s k)) []
   undone_even s k =
@@ -131,12 +123,8 @@ module _ (c v : ℕ) (p : Party) (cell : value_of p c ≡ Some v) where
           (v + gives c r, value_raise Give c v r p.cells cell, omega (arith, sum))
       go false y = stays_even
 
-not_already : (n f h o : Bool) → cond n (Refused Unfit) (cond f (Refused Full) (cond h (Refused Short) (cond o (Refused Above) Done))) ≡ Already → ⊥
-not_already true f h o e = let z : ◌≡◌ {A = ℕ} 0 1 = cc in omega arith
-not_already false true h o e = let z : ◌≡◌ {A = ℕ} 0 1 = cc in omega arith
-not_already false false true o e = let z : ◌≡◌ {A = ℕ} 0 1 = cc in omega arith
-not_already false false false true e = let z : ◌≡◌ {A = ℕ} 0 1 = cc in omega arith
-not_already false false false false e = let z : ◌≡◌ {A = ℕ} 0 1 = cc in omega arith
+not_already : (n f h o : Bool) → ◌≡◌ {A = Answer} (cond n (Err Unfit) (cond f (Err Full) (cond h (Err Short) (cond o (Err Above) (Ok Done))))) (Ok Already) → ⊥
+not_already n f h o e = grind arith
 
 -- the call for a pending step
 module _ (ps : List Party) (s : ℕ) (t : Step) where
@@ -164,9 +152,9 @@ module _ (ps : List Party) (s : ℕ) (t : Step) where
   answered : (a : Answer) → do_answer (party_at ps t.participant) (entry s t) ≡ a → (asked_answer Stepping ps s t ≡ outcome_of a) × ((party_at (asked_after Stepping ps s t) t.participant).entries ≡ (after_answer a (party_at ps t.participant) (entry s t)).entries)
   answered a h = (ap outcome_of h, ap (λ (x : Party). x.entries) there_do ∙ ap (λ (b : Answer). (after_answer b (party_at ps t.participant) (entry s t)).entries) h)
 
-  key_stands : any (is_key (key s t.number)) (party_at ps t.participant).entries ≡ true → (b : Bool) → same_request (pick (is_key (key s t.number)) (entry s t) (party_at ps t.participant).entries).request t.request ≡ b → do_answer (party_at ps t.participant) (entry s t) ≡ cond b Already (Refused OtherRequest)
+  key_stands : any (is_key (key s t.number)) (party_at ps t.participant).entries ≡ true → (b : Bool) → same_request (pick (is_key (key s t.number)) (entry s t) (party_at ps t.participant).entries).request t.request ≡ b → do_answer (party_at ps t.participant) (entry s t) ≡ cond b (Ok Already) (Err OtherRequest)
   unfolding do_answer
-  key_stands h b e = cond-true _ _ _ h ∙ ap (λ (z : Bool). cond z Already (Refused OtherRequest)) e
+  key_stands h b e = cond-true _ _ _ h ∙ ap (λ (z : Bool). cond z (Ok Already) (Err OtherRequest)) e
 
   key_new : any (is_key (key s t.number)) (party_at ps t.participant).entries ≡ false → do_answer (party_at ps t.participant) (entry s t) ≡ new_answer (party_at ps t.participant).verbs (party_at ps t.participant).cells (party_at ps t.participant).entries t.request
   unfolding do_answer
@@ -177,24 +165,24 @@ module _ (ps : List Party) (s : ℕ) (t : Step) where
   do_stays h = go (same_request (pick (is_key (key s t.number)) (entry s t) (party_at ps t.participant).entries).request t.request) refl
     where
       go : (b : Bool) → same_request (pick (is_key (key s t.number)) (entry s t) (party_at ps t.participant).entries).request t.request ≡ b → (party_at (asked_after Stepping ps s t) t.participant).entries ≡ (party_at ps t.participant).entries
-      go true e = (answered Already (key_stands h true e)).1
-      go false e = (answered (Refused OtherRequest) (key_stands h false e)).1
+      go true e = (answered (Ok Already) (key_stands h true e)).1
+      go false e = (answered (Err OtherRequest) (key_stands h false e)).1
 
   same_itself : same_request t.request t.request ≡ true
   same_itself = rw (eqb_refl t.request.verb, eqb_refl t.request.amount, eqb_refl t.request.a, eqb_refl t.request.b) refl
 
   -- a step that stands already
-  pub do_again : any (is_key (key s t.number)) (party_at ps t.participant).entries ≡ true → pick (is_key (key s t.number)) (entry s t) (party_at ps t.participant).entries ≡ entry s t → (asked_answer Stepping ps s t ≡ WentWell) × ((party_at (asked_after Stepping ps s t) t.participant).entries ≡ (party_at ps t.participant).entries)
-  do_again h e = answered Already (key_stands h true (ap (λ (x : Entry). same_request x.request t.request) e ∙ same_itself))
+  pub do_again : any (is_key (key s t.number)) (party_at ps t.participant).entries ≡ true → pick (is_key (key s t.number)) (entry s t) (party_at ps t.participant).entries ≡ entry s t → (asked_answer Stepping ps s t ≡ (Ok tt)) × ((party_at (asked_after Stepping ps s t) t.participant).entries ≡ (party_at ps t.participant).entries)
+  do_again h e = answered (Ok Already) (key_stands h true (ap (λ (x : Entry). same_request x.request t.request) e ∙ same_itself))
 
   -- one that does not: it joins the end, or is refused
-  pub do_new : any (is_key (key s t.number)) (party_at ps t.participant).entries ≡ false → ((asked_answer Stepping ps s t ≡ WentWell) × ((party_at (asked_after Stepping ps s t) t.participant).entries ≡ (party_at ps t.participant).entries ++ entry s t ∷ [])) ⊎ ((c : Refusal) × (asked_answer Stepping ps s t ≡ WentNot c) × ((party_at (asked_after Stepping ps s t) t.participant).entries ≡ (party_at ps t.participant).entries))
+  pub do_new : any (is_key (key s t.number)) (party_at ps t.participant).entries ≡ false → ((asked_answer Stepping ps s t ≡ (Ok tt)) × ((party_at (asked_after Stepping ps s t) t.participant).entries ≡ (party_at ps t.participant).entries ++ entry s t ∷ [])) ⊎ ((c : Refusal) × (asked_answer Stepping ps s t ≡ Err c) × ((party_at (asked_after Stepping ps s t) t.participant).entries ≡ (party_at ps t.participant).entries))
   do_new h = go (do_answer (party_at ps t.participant) (entry s t)) refl
     where
-      go : (a : Answer) → do_answer (party_at ps t.participant) (entry s t) ≡ a → ((asked_answer Stepping ps s t ≡ WentWell) × ((party_at (asked_after Stepping ps s t) t.participant).entries ≡ (party_at ps t.participant).entries ++ entry s t ∷ [])) ⊎ ((c : Refusal) × (asked_answer Stepping ps s t ≡ WentNot c) × ((party_at (asked_after Stepping ps s t) t.participant).entries ≡ (party_at ps t.participant).entries))
-      go Done e = inl (answered Done e)
-      go Already e = absurd (not_already (not (fitting (party_at ps t.participant).verbs (party_at ps t.participant).cells t.request)) (leb 64 (length (party_at ps t.participant).entries)) (any (short t.request) (party_at ps t.participant).cells) (any (above (party_at ps t.participant).entries t.request) (party_at ps t.participant).cells) (sym (key_new h) ∙ e))
-      go (Refused c) e = let x = answered (Refused c) e in inr (c, x.0, x.1)
+      go : (a : Answer) → do_answer (party_at ps t.participant) (entry s t) ≡ a → ((asked_answer Stepping ps s t ≡ (Ok tt)) × ((party_at (asked_after Stepping ps s t) t.participant).entries ≡ (party_at ps t.participant).entries ++ entry s t ∷ [])) ⊎ ((c : Refusal) × (asked_answer Stepping ps s t ≡ Err c) × ((party_at (asked_after Stepping ps s t) t.participant).entries ≡ (party_at ps t.participant).entries))
+      go (Ok Done) e = inl (answered (Ok Done) e)
+      go (Ok Already) e = absurd (not_already (not (fitting (party_at ps t.participant).verbs (party_at ps t.participant).cells t.request)) (leb 64 (length (party_at ps t.participant).entries)) (any (short t.request) (party_at ps t.participant).cells) (any (above (party_at ps t.participant).entries t.request) (party_at ps t.participant).cells) (sym (key_new h) ∙ e))
+      go (Err c) e = let x = answered (Err c) e in inr (c, x.0, x.1)
 
   pub asked_even : (a : Aim) (c v : ℕ) → value_of (party_at ps t.participant) c ≡ Some v → Even c v (party_at ps t.participant) (party_at (asked_after a ps s t) t.participant) (left_by a (party_at ps t.participant) s t)
   asked_even Stepping c v h = subst (λ (x : Party). Even c v (party_at ps t.participant) x []) (sym there_do) (done_even c v (party_at ps t.participant) h (entry s t))

@@ -6,7 +6,8 @@ use Rattle.rehearsal.specs.Keeps.{Start, Kept}
 use Rattle.rehearsal.proofs.Answering.{answers_kept}
 use Rattle.rehearsal.proofs.Balances.{balance_kept}
 use Rattle.rehearsal.proofs.Closes.{closing_kept}
-use Rattle.rehearsal.proofs.Mirrored.{unready, mirrors_moves}
+use Rattle.runner.proofs.Calling.{unready}
+use Rattle.rehearsal.proofs.Mirrored.{mirrors_moves}
 use Rattle.rehearsal.proofs.Rooms.{restarts_kept}
 use Rattle.rehearsal.proofs.Standings.{standing_kept}
 

@@ -1,17 +1,14 @@
 -- After any moves, a runner that has read its journal has the law's reading of it.
-use Rattle.std.proofs.Common.{◌≡◌, ℕ, true, false, List, [], ◌∷◌, fold, sym, refl, ◌∙◌, arith}
+use Rattle.std.proofs.Common.{List, [], ◌∷◌, fold, refl}
 use Rattle.runner.specs.Worlds.{World}
 use Rattle.runner.specs.Mirrors.{Mirrors}
-use Rattle.runner.proofs.Calling.{mirrored}
+use Rattle.runner.proofs.Calling.{mirrored, unready}
 use Rattle.runner.specs.declared.moves.Call.{Call}
 use Rattle.runner.specs.declared.moves.Call.TheVariants.{Restart, Begin, Step, Mark, Join, Back, Finish, Cancel, Advance, Answer}
 use Rattle.runner.specs.declared.moves.Reach.{Reach}
 use Rattle.runner.specs.declared.moves.Reach.TheVariants.{Made, CutBefore, CutAfter}
 use Rattle.runner.specs.declared.moves.Move.{Move}
 use Rattle.runner.specs.Acts.{ticket, called, lost, act_by, act}
-
-pub unready : (w : World) → w.ready ≡ false → Mirrors w
-unready w h r = let z : false ≡ true = sym h ∙ r in let k : ◌≡◌ {A = ℕ} 0 1 = cc in absurd (omega arith)
 
 pub mirrors_called : (w : World) (c : Call) → Mirrors w → Mirrors (called w c)
 mirrors_called w Restart m = mirrored.restart w

@@ -1,5 +1,5 @@
 -- What holds after any moves, from an empty journal and participants at which nothing stands.
-use Rattle.std.specs.Prelude.{◌≡◌, ℕ, ◌+◌, ◌*◌, ◌<◌, Bool, true, false, cond, ◌&&◌, ◌⊎◌, List, [], ◌∷◌, ◌++◌, map, length, Some, fold, count_by, filter, ◌==◌, nat_eq, is_some, is_ok}
+use Rattle.std.specs.Prelude.{◌≡◌, ℕ, ◌+◌, ◌*◌, ◌<◌, Bool, true, false, cond, ◌&&◌, ◌⊎◌, List, [], ◌∷◌, ◌++◌, map, length, Some, fold, count_by, filter, ◌==◌, nat_eq, is_some, is_ok, None}
 use Rattle.bounded.specs.Firsts.{any, pick}
 use Rattle.terms.specs.declared.Entry.{Entry}
 use Rattle.participants.specs.Effects.{taken, given}
@@ -8,8 +8,7 @@ use Rattle.bank.specs.Banks.{party_at}
 use Rattle.law.specs.declared.event.Aim.TheVariants.{Stepping, Retreating, Finishing}
 use Rattle.law.specs.declared.event.Phase.{Phase}
 use Rattle.law.specs.declared.event.Phase.TheVariants.{Running, Pending, Closed}
-use Rattle.runner.specs.declared.memory.Memory.{Memory}
-use Rattle.runner.specs.declared.memory.Memory.TheVariants.{Blank, Told}
+use Rattle.runner.specs.Memories.{Memory}
 use Rattle.runner.specs.Worlds.{World, on_saga}
 use Rattle.runner.specs.Calls.{restarted, advanced, key_of}
 use Rattle.runner.specs.Mirrors.{Mirrors}
@@ -32,10 +31,10 @@ settle_by s ps Running m = []
 settle_by s ps Closed m = []
 settle_by s ps (Pending Stepping t) m = []
 settle_by s ps (Pending (Retreating g d) t) m = []
-settle_by s ps (Pending Finishing t) Blank =
+settle_by s ps (Pending Finishing t) None =
     let es = (party_at ps t.participant).entries in
     cond (any (is_key (key_of s t)) es) ((t.participant, pick (is_key (key_of s t)) no_entry es) ∷ []) []
-settle_by s ps (Pending Finishing t) (Told x) = []
+settle_by s ps (Pending Finishing t) (Some x) = []
 
 abbrev pub settles : World → Call → List (ℕ × Entry)
 settles w Restart = []

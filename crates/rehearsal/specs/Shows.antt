@@ -9,7 +9,7 @@ use Rattle.law.specs.declared.event.Phase.{Phase}
 use Rattle.law.specs.declared.event.Phase.TheVariants.{Running, Pending, Closed}
 use Rattle.law.specs.declared.event.Step.{Step}
 use Rattle.law.specs.declared.event.Event.{Event}
-use Rattle.law.specs.declared.event.Event.TheVariants.{Begin, Intent, Done, Refused, Mark, Join, Back, Undone, Finish, Settled, Unlawful}
+use Rattle.law.specs.declared.event.Event.TheVariants.{Begin, Intent, Done, Refused, Mark, Join, Back, Undone, Finish, Settled}
 use Rattle.record.specs.declared.Record.{Record}
 use Rattle.law.specs.Events.{event_of}
 use Rattle.law.specs.Law.{Saga}
@@ -73,11 +73,15 @@ issue s n (Back d) l = l
 issue s n (Undone k) l = l
 issue s n Finish l = l
 issue s n (Settled k) l = l
-issue s n Unlawful l = l
+
+-- what the event of a record does; a record that says nothing does nothing
+abbrev pub heard : {X : Type 0} → (Event → X → X) → Option Event → X → X
+heard f None x = x
+heard f (Some e) x = f e x
 
 abbrev pub issued : ℕ → List Record → List Step
 issued s [] = []
-issued s (r ∷ rs) = issue s r.saga (event_of r) (issued s rs)
+issued s (r ∷ rs) = heard (issue s r.saga) (event_of r) (issued s rs)
 
 abbrev pub no_step : Step
 no_step = record { number = 0; participant = 0; request = record { verb = 0; amount = 0; a = 0; b = 0 } }
@@ -93,11 +97,10 @@ settling all s n (Back d) l = l
 settling all s n (Undone k) l = l
 settling all s n Finish l = l
 settling all s n (Settled k) l = cond (n == s) (pick (λ (u : Step). nat_eq u.number k) no_step all ∷ l) l
-settling all s n Unlawful l = l
 
 abbrev pub settled_among : List Step → ℕ → List Record → List Step
 settled_among all s [] = []
-settled_among all s (r ∷ rs) = settling all s r.saga (event_of r) (settled_among all s rs)
+settled_among all s (r ∷ rs) = heard (settling all s r.saga) (event_of r) (settled_among all s rs)
 
 abbrev pub settled_steps : ℕ → List Record → List Step
 settled_steps s rs = settled_among (issued s rs) s rs
@@ -114,8 +117,11 @@ ends s n (Back d) = n == s && d == 0
 ends s n (Undone k) = false
 ends s n Finish = n == s
 ends s n (Settled k) = false
-ends s n Unlawful = false
+
+abbrev pub ends_by : ℕ → ℕ → Option Event → Bool
+ends_by s n None = false
+ends_by s n (Some e) = ends s n e
 
 abbrev pub ended : ℕ → List Record → Bool
 ended s [] = false
-ended s (r ∷ rs) = ends s r.saga (event_of r) || ended s rs
+ended s (r ∷ rs) = ends_by s r.saga (event_of r) || ended s rs

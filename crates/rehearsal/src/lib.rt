@@ -3,7 +3,7 @@
 
 ghost use Rattle.std.specs.Prelude.{◌≡◌, ◌+◌, ◌≤◌, length, fold};
 ghost use Rattle.runner.specs.Worlds.{world};
-ghost use Rattle.runner.specs.Calls.{unread_world};
+ghost use Rattle.runner.specs.Calls.{new_world};
 ghost use Rattle.runner.specs.Acts.{act};
 ghost use Rattle.rehearsal.specs.Keeps.{Start, Kept, Reads};
 
@@ -15,9 +15,9 @@ use runner::runner::Runner;
 
 /// A new runner on this journal and this bank, then the moves one after another.
 pub fn rehearse<J: Journal, B: Bank>(journal: J, bank: B, moves: &[Move]) -> Runner<J, B>
-    ensures after { world J.JournalRead.records J.Journal.capacity B.Bank.parties result ≡ fold act (unread_world (J.JournalRead.records journal) (J.Journal.capacity journal) (B.Bank.parties bank)) moves.now }
-    ensures kept { Start (unread_world (J.JournalRead.records journal) (J.Journal.capacity journal) (B.Bank.parties bank)) → Kept (unread_world (J.JournalRead.records journal) (J.Journal.capacity journal) (B.Bank.parties bank)) moves.now }
-    ensures reads { Reads (unread_world (J.JournalRead.records journal) (J.Journal.capacity journal) (B.Bank.parties bank)) moves.now }
+    ensures after { world J.Journal B.Bank result ≡ fold act (new_world J.Journal B.Bank journal bank) moves.now }
+    ensures kept { Start (new_world J.Journal B.Bank journal bank) → Kept (new_world J.Journal B.Bank journal bank) moves.now }
+    ensures reads { Reads (new_world J.Journal B.Bank journal bank) moves.now }
     ensures cost { (J.Journal.writes result.journal + B.Bank.writes result.bank ≤ J.Journal.writes journal + B.Bank.writes bank + length moves.now) × (J.Journal.lender result.journal ≡ J.Journal.lender journal) }
 {
     play(journal, bank, moves)

@@ -3,7 +3,7 @@ use Rattle.runner.specs.Worlds.{World}
 use Rattle.runner.specs.Slips.{ticket_of}
 use Rattle.runner.specs.Calls.{restarted, opened, stepped, marked, joined, backed, finished, cancelled, advanced, unread_world}
 use Rattle.runner.specs.declared.ticket.Ticket.{Ticket}
-use Rattle.runner.specs.declared.moves.Numbers.{Numbers}
+use Rattle.runner.specs.declared.ticket.Numbers.{Numbers}
 use Rattle.runner.specs.declared.moves.Call.{Call}
 use Rattle.runner.specs.declared.moves.Call.TheVariants.{Restart, Begin, Step, Mark, Join, Back, Finish, Cancel, Advance, Answer}
 use Rattle.runner.specs.declared.moves.Reach.{Reach}

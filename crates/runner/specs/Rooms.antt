@@ -4,7 +4,6 @@ use Rattle.terms.specs.declared.Request.{Request}
 use Rattle.participants.specs.Party.{Party}
 use Rattle.runner.specs.declared.fault.RunnerFault.TheVariants.{NoRoom}
 use Rattle.runner.specs.declared.ticket.Ticket.{Ticket}
-use Rattle.runner.specs.declared.ticket.Stepped.TheVariants.{NotIssued}
 use Rattle.runner.specs.Slips.{ticket_of}
 use Rattle.runner.specs.Worlds.{World}
 use Rattle.runner.specs.Calls.{unread_world, restarted, opened, stepped, finished, advanced}
@@ -27,6 +26,6 @@ to_the_end n p q = (advanced 5 (advanced 5 (finished five (one_step n p q)).1).1
 
 pub record Room : Type 0 where
   pub one : (p : Party) → (opened 5 (at_first 1 p)).0 ≡ Err NoRoom
-  pub four : (p : Party) (q : Request) → (stepped five 1 q (opened 5 (at_first 4 p)).1).0 ≡ NotIssued five NoRoom
+  pub four : (p : Party) (q : Request) → (stepped five 1 q (opened 5 (at_first 4 p)).1).0 ≡ Err (five, NoRoom)
   -- no saga is open at the end
   pub carries : (p : Party) (q : Request) → (to_the_end 5 p q).table.rows ≡ []

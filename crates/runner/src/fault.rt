@@ -5,7 +5,8 @@ ghost use Rattle.runner.specs.Codes.{code_of};
 
 use journals::fault::JournalFault;
 
-#[derive(Clone, Copy)]
+/// Why a call is refused, with the number that reports have for it.
+#[derive(Clone, Copy, PartialEq, Eq, Debug)]
 pub enum RunnerFault {
     /// 20: a saga number out of range.
     SagaNumber,
@@ -37,12 +38,12 @@ pub enum RunnerFault {
     Journal { saga: u32, below: JournalFault },
 }
 
-impl RunnerFault {
-    /// The fault's number in reports.
-    pub fn code(self) -> u16
-        ensures { result ≡ code_of self }
-    {
-        match self {
+/// The fault's number in reports.
+impl From<RunnerFault> for u16 {
+    ghost from_gives = { λ fault r. r ≡ code_of fault };
+
+    fn from(fault: RunnerFault) -> u16 {
+        match fault {
             RunnerFault::SagaNumber => 20,
             RunnerFault::NoParticipant => 21,
             RunnerFault::UnlawfulRecord(_) => 22,
@@ -56,13 +57,13 @@ impl RunnerFault {
             RunnerFault::WrongPhase => 36,
             RunnerFault::LimitReached => 37,
             RunnerFault::WrongMarks => 38,
-            RunnerFault::Journal { saga: _, below } => u16::from(below.code()),
+            RunnerFault::Journal { saga: _, below } => u16::from(u8::from(below)),
         }
     }
 }
 
 /// A fault of the journal, with the saga it came under.
-#[derive(Clone, Copy)]
+#[derive(Clone, Copy, PartialEq, Eq, Debug)]
 pub struct Unwritten {
     pub saga: u32,
     pub below: JournalFault,

@@ -1,10 +1,5 @@
 //! What the runner remembers of an open saga besides the journal; a restart forgets it.
 use law::event::Outcome;
 
-#[derive(Clone, Copy)]
-pub enum Memory {
-    /// The participant has not been called for the pending step since the last restart.
-    Blank,
-    /// It has been called, and this is to be recorded next.
-    Told(Outcome),
-}
+/// What the pending step came to, to be recorded next: once its participant has been called since the last restart.
+pub type Memory = Option<Outcome>;

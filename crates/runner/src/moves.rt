@@ -1,14 +1,9 @@
 //! The calls that a rehearsal makes, each of them whole or cut.
+use crate::ticket::Numbers;
 use terms::Request;
 
-/// A ticket or a slip, by its two numbers; any two, also those of no ticket that was ever given.
-#[derive(Clone, Copy)]
-pub struct Numbers {
-    pub saga: u32,
-    pub restart: u64,
-}
-
-#[derive(Clone, Copy)]
+/// A call, with its ticket or slip by its two numbers: any two, also those of no ticket that was ever given.
+#[derive(Clone, Copy, PartialEq, Eq, Debug)]
 pub enum Call {
     Restart,
     Begin(u32),
@@ -23,14 +18,15 @@ pub enum Call {
 }
 
 /// How far a call came: it answered, or it was cut before its write, or after it.
-#[derive(Clone, Copy)]
+#[derive(Clone, Copy, PartialEq, Eq, Debug)]
 pub enum Reach {
     Made,
     CutBefore,
     CutAfter,
 }
 
-#[derive(Clone, Copy)]
+/// A call, and how far it came.
+#[derive(Clone, Copy, PartialEq, Eq, Debug)]
 pub struct Move {
     pub call: Call,
     pub reach: Reach,

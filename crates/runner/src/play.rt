@@ -3,110 +3,110 @@
 //! A call names its ticket by two numbers. Nowhere else is a ticket made from numbers, or let go unspent.
 ghost use Rattle.std.specs.Prelude.{◌≡◌, ◌+◌, ◌≤◌, length, fold};
 ghost use Rattle.runner.specs.Worlds.{world, OneWrite};
-ghost use Rattle.runner.specs.Calls.{unread_world};
-ghost use Rattle.runner.specs.Slips.{ticket_of};
+ghost use Rattle.runner.specs.Calls.{new_world};
 ghost use Rattle.runner.specs.Acts.{called, lost, act};
 
-use crate::fault::RunnerFault;
-use crate::moves::{Call, Move, Numbers, Reach};
+use crate::declined::Declined;
+use crate::moves::{Call, Move, Reach};
 use crate::runner::Runner;
-use crate::ticket::{Ended, Stepped, Ticket};
-use crate::waiting::{Answered, Waiting};
+use crate::ticket::Ticket;
+use crate::waiting::Waiting;
 use bank::bank::Bank;
 use journals::traits::Journal;
 
-fn ticket_of(numbers: Numbers) -> Ticket
-    ensures { result ≡ ticket_of numbers.saga numbers.restart }
-{
-    Ticket {
-        saga: numbers.saga,
-        restart: numbers.restart,
+/// A ticket or slip in what a call answers is taken apart.
+trait Forget {
+    fn forget(self);
+}
+
+impl Forget for Ticket {
+    fn forget(self) {
+        self.spend();
     }
 }
 
-fn forget_begun(begun: Result<Ticket, RunnerFault>) {
-    match begun {
-        Ok(ticket) => ticket.spend(),
-        Err(_) => {}
+impl Forget for Waiting {
+    fn forget(self) {
+        self.spend();
     }
 }
 
-fn forget_stepped(stepped: Stepped) {
-    match stepped {
-        Stepped::Issued(slip) => slip.spend(),
-        Stepped::NotIssued(ticket, _) => ticket.spend(),
-    }
-}
-
-fn forget_ended(ended: Ended) {
-    match ended {
-        Ended::Closing => {}
-        Ended::Spent(_) => {}
-        Ended::NotEnded(ticket, _) => ticket.spend(),
-    }
-}
-
-fn forget_answered(answered: Answered) {
-    match answered {
-        Answered::Answer(ticket, _) => ticket.spend(),
-        Answered::SlipSpent(_) => {}
-        Answered::NotYet(slip, _) => slip.spend(),
+impl<T: Forget> Forget for Declined<T> {
+    fn forget(self) {
+        if let Declined::Returned(held, _) = self {
+            held.forget();
+        }
     }
 }
 
 fn call<J: Journal, B: Bank>(runner: &mut Runner<J, B>, call: Call)
-    ensures after { world J.JournalRead.records J.Journal.capacity B.Bank.parties runner.new ≡ called (world J.JournalRead.records J.Journal.capacity B.Bank.parties runner.old) call }
-    ensures cost { OneWrite J.Journal.writes J.Journal.lender B.Bank.writes runner.old runner.new }
+    ensures after { world J.Journal B.Bank runner.new ≡ called (world J.Journal B.Bank runner.old) call }
+    ensures cost { OneWrite J.Journal B.Bank runner.old runner.new }
 {
+    // A match and no closures: a call is data, so that the theorem can speak of any list of them.
     match call {
         Call::Restart => {
             let _ = runner.restart();
         }
-        Call::Begin(saga) => forget_begun(runner.begin(saga)),
+        Call::Begin(saga) => {
+            if let Ok(ticket) = runner.begin(saga) {
+                ticket.spend();
+            }
+        }
         Call::Step(numbers, participant, request) => {
-            forget_stepped(runner.step(ticket_of(numbers), participant, request))
+            match runner.step(Ticket { numbers }, participant, request) {
+                Ok(slip) => slip.spend(),
+                Err((ticket, _)) => ticket.spend(),
+            }
         }
         Call::Mark(numbers) => {
-            let ticket = ticket_of(numbers);
+            let ticket = Ticket { numbers };
             let _ = runner.mark(&ticket);
             ticket.spend();
         }
         Call::Join(numbers) => {
-            let ticket = ticket_of(numbers);
+            let ticket = Ticket { numbers };
             let _ = runner.join(&ticket);
             ticket.spend();
         }
         Call::Back(numbers, depth) => {
-            let ticket = ticket_of(numbers);
+            let ticket = Ticket { numbers };
             let _ = runner.back(&ticket, depth);
             ticket.spend();
         }
-        Call::Finish(numbers) => forget_ended(runner.finish(ticket_of(numbers))),
-        Call::Cancel(numbers) => forget_ended(runner.cancel(ticket_of(numbers))),
+        Call::Finish(numbers) => {
+            if let Err(declined) = runner.finish(Ticket { numbers }) {
+                declined.forget();
+            }
+        }
+        Call::Cancel(numbers) => {
+            if let Err(declined) = runner.cancel(Ticket { numbers }) {
+                declined.forget();
+            }
+        }
         Call::Advance(saga) => {
             let _ = runner.advance(saga);
         }
-        Call::Answer(numbers) => forget_answered(runner.answer(Waiting {
-            saga: numbers.saga,
-            restart: numbers.restart,
-        })),
+        Call::Answer(numbers) => match runner.answer(Waiting { numbers }) {
+            Ok((ticket, _)) => ticket.spend(),
+            Err(declined) => declined.forget(),
+        },
     }
 }
 
 /// The runner is lost with its tickets, and a new one is made on what is left.
 fn cut<J: Journal, B: Bank>(runner: Runner<J, B>) -> Runner<J, B>
-    ensures after { world J.JournalRead.records J.Journal.capacity B.Bank.parties result ≡ lost (world J.JournalRead.records J.Journal.capacity B.Bank.parties runner) }
+    ensures after { world J.Journal B.Bank result ≡ lost (world J.Journal B.Bank runner) }
     ensures cost { (J.Journal.writes result.journal + B.Bank.writes result.bank ≡ J.Journal.writes runner.journal + B.Bank.writes runner.bank) × (J.Journal.lender result.journal ≡ J.Journal.lender runner.journal) }
 {
     let (journal, bank) = runner.into_parts();
     Runner::new(journal, bank)
 }
 
-fn perform<J: Journal, B: Bank>(runner: Runner<J, B>, step: Move) -> Runner<J, B>
-    ensures after { world J.JournalRead.records J.Journal.capacity B.Bank.parties result ≡ act (world J.JournalRead.records J.Journal.capacity B.Bank.parties runner) step }
-    ensures cost { OneWrite J.Journal.writes J.Journal.lender B.Bank.writes runner result }
+fn perform<J: Journal, B: Bank>(mut runner: Runner<J, B>, step: Move) -> Runner<J, B>
+    ensures after { world J.Journal B.Bank result ≡ act (world J.Journal B.Bank runner) step }
+    ensures cost { OneWrite J.Journal B.Bank runner result }
 {
-    let mut runner = runner;
     match step.reach {
         Reach::Made => {
             call(&mut runner, step.call);
@@ -122,7 +122,7 @@ fn perform<J: Journal, B: Bank>(runner: Runner<J, B>, step: Move) -> Runner<J, B
 
 /// A new runner on this journal and this bank, then the moves one after another.
 pub fn play<J: Journal, B: Bank>(journal: J, bank: B, moves: &[Move]) -> Runner<J, B>
-    ensures after { world J.JournalRead.records J.Journal.capacity B.Bank.parties result ≡ fold act (unread_world (J.JournalRead.records journal) (J.Journal.capacity journal) (B.Bank.parties bank)) moves.now }
+    ensures after { world J.Journal B.Bank result ≡ fold act (new_world J.Journal B.Bank journal bank) moves.now }
     ensures cost { (J.Journal.writes result.journal + B.Bank.writes result.bank ≤ J.Journal.writes journal + B.Bank.writes bank + length moves.now) × (J.Journal.lender result.journal ≡ J.Journal.lender journal) }
 {
     let mut runner = Runner::new(journal, bank);

@@ -3,14 +3,14 @@ use crate::memory::Memory;
 use law::table::Table;
 
 pub mod calls;
+mod checks;
 pub mod reads;
 pub mod writes;
 
-/// `ready` once the journal has been read; `restarts` counts restarts, and wraps.
+/// The table is there once the journal has been read; `restarts` counts restarts, and wraps.
 pub struct Runner<J, B> {
     journal: J,
     bank: B,
-    table: Table<Memory>,
-    ready: bool,
+    table: Option<Table<Memory>>,
     restarts: u64,
 }

@@ -1,51 +1,43 @@
 //! What each record does to its saga.
-ghost use Rattle.std.specs.Prelude.{◌≡◌, ℕ, ◌+◌, ◌-◌, ◌<◌, ◌≤◌, Bool, length, ◌==◌};
+ghost use Rattle.std.specs.Prelude.{◌≡◌, ℕ, ◌+◌, ◌-◌, ◌<◌, ◌≤◌, Bool, length, is_ok, ◌==◌};
 ghost use Rattle.bounded.specs.Held.{held};
 ghost use Rattle.law.specs.Law.{begun, moved, retreat, finishing, target, owes, owes_more, is_open};
 ghost use Rattle.law.specs.Means.{saga_of};
 ghost use Rattle.law.specs.Views.{view_of};
 
-use crate::event::{Aim, Event, Outcome, Phase, Step};
+use crate::event::{Aim, Event, Phase, Step, Unlawful};
 use crate::row::Row;
 use crate::table::View;
 use bounded::Bounded;
-use terms::Request;
 
 /// The step to undo next on the way back to a target, if any.
-fn retreating(standing: &Bounded<Step, 32>, goal: u8, depth: u8) -> Phase
-    ensures { result ≡ retreat goal depth (held standing.now) }
+fn retreating(standing: &[Step], goal: u8, depth: u8) -> Phase
+    ensures { result ≡ retreat goal depth standing.now }
 {
-    let highest = match standing.len() {
-        0 => None,
-        count => standing.get(count - 1),
-    };
-    match highest {
-        Some(step) if step.number > goal => Phase::Pending(Aim::Retreating(goal, depth), step),
+    match standing.last() {
+        Some(step) if step.number > goal => Phase::Pending(Aim::Retreating(goal, depth), *step),
         _ if depth == 0 => Phase::Closed,
         _ => Phase::Running,
     }
 }
 
 /// The step to settle next, if any.
-fn settling(standing: &Bounded<Step, 32>) -> Phase
-    ensures { result ≡ finishing (held standing.now) }
+fn settling(standing: &[Step]) -> Phase
+    ensures { result ≡ finishing standing.now }
 {
-    match standing.get(0) {
-        Some(step) => Phase::Pending(Aim::Finishing, step),
+    match standing.first() {
+        Some(step) => Phase::Pending(Aim::Finishing, *step),
         None => Phase::Closed,
     }
 }
 
 /// The last step issued when the mark of a depth was set; 0 for depth 0.
-fn mark_of(marks: &Bounded<u8, 8>, depth: u8) -> u8
-    ensures { result ≡ target (held marks.now) depth }
+fn mark_of(marks: &[u8], depth: u8) -> u8
+    ensures { result ≡ target marks.now depth }
 {
-    if depth == 0 {
-        return 0;
-    }
-    match marks.get(depth as usize - 1) {
-        Some(last) => last,
-        None => 0,
+    match depth {
+        0 => 0,
+        _ => marks.get(depth as usize - 1).copied().unwrap_or(0),
     }
 }
 
@@ -66,23 +58,13 @@ impl Row {
     pub(crate) fn begin(saga: u32) -> Row
         ensures { saga_of result ≡ begun saga }
     {
-        let none = Step {
-            number: 0,
-            participant: 0,
-            request: Request {
-                verb: 0,
-                amount: 0,
-                a: 0,
-                b: 0,
-            },
-        };
         Row {
             saga,
             phase: Phase::Running,
             last: 0,
-            standing: Bounded::new(none),
+            standing: Bounded::new(Step::default()),
             marks: Bounded::new(0),
-            outcome: Outcome::Done,
+            outcome: Ok(()),
         }
     }
 
@@ -95,10 +77,7 @@ impl Row {
     pub(crate) fn is_open(&self) -> bool
         ensures { result ≡ is_open (saga_of self.now).phase }
     {
-        match self.phase {
-            Phase::Closed => false,
-            _ => true,
-        }
+        !matches!(self.phase, Phase::Closed)
     }
 
     pub(crate) fn seen<V: Copy>(&self, note: V) -> View<V>
@@ -126,9 +105,9 @@ impl Row {
         }
     }
 
-    /// Whether the event is lawful; one that is not changes nothing.
-    pub(crate) fn apply(&mut self, event: Event, participants: u8) -> bool
-        ensures { (result, saga_of self.new) ≡ moved participants (saga_of self.old) event }
+    /// What the event makes of the saga; one that is not lawful changes nothing.
+    pub(crate) fn apply(&mut self, event: Event, participants: u8) -> Result<(), Unlawful>
+        ensures { (is_ok result, saga_of self.new) ≡ moved participants (saga_of self.old) event }
     {
         match (self.phase, event) {
             (Phase::Running, Event::Intent(step))
@@ -141,39 +120,40 @@ impl Row {
             }
             (Phase::Pending(Aim::Stepping, step), Event::Done(number)) if number == step.number => {
                 self.phase = Phase::Running;
-                self.standing.push(step);
-                self.outcome = Outcome::Done;
+                let _ = self.standing.push(step);
+                self.outcome = Ok(());
             }
             (Phase::Pending(Aim::Stepping, step), Event::Refused(number, refusal))
                 if number == step.number => {
                 self.phase = Phase::Running;
-                self.outcome = Outcome::Refused(refusal);
+                self.outcome = Err(refusal);
             }
             (Phase::Running, Event::Mark) if self.marks.len() < 8 => {
-                self.marks.push(self.last);
+                let _ = self.marks.push(self.last);
             }
             (Phase::Running, Event::Join) if self.marks.len() > 0 => {
                 let _ = self.marks.pop();
             }
             (Phase::Running, Event::Back(depth)) if depth as usize <= self.marks.len() => {
-                self.phase = retreating(&self.standing, mark_of(&self.marks, depth), depth);
+                let goal = mark_of(self.marks.as_slice(), depth);
+                self.phase = retreating(self.standing.as_slice(), goal, depth);
                 self.marks.truncate(depth as usize);
             }
             (Phase::Pending(Aim::Retreating(goal, depth), step), Event::Undone(number))
                 if number == step.number => {
                 let _ = self.standing.pop();
-                self.phase = retreating(&self.standing, goal, depth);
+                self.phase = retreating(self.standing.as_slice(), goal, depth);
             }
-            (Phase::Running, Event::Finish) if self.marks.len() == 0 => self.phase = settling(
-                &self.standing,
-            ),
+            (Phase::Running, Event::Finish) if self.marks.len() == 0 => {
+                self.phase = settling(self.standing.as_slice());
+            }
             (Phase::Pending(Aim::Finishing, step), Event::Settled(number))
                 if number == step.number => {
                 let _ = self.standing.remove(0);
-                self.phase = settling(&self.standing);
+                self.phase = settling(self.standing.as_slice());
             }
-            _ => return false,
+            _ => return Err(Unlawful),
         }
-        true
+        Ok(())
     }
 }

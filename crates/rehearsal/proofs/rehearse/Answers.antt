@@ -1,11 +1,13 @@
-use Rattle.std.proofs.Common.{refl, rules}
-use Rattle.runner.specs.Calls.{unread_world}
+use Rattle.std.proofs.Common.{refl}
+use Rattle.runner.specs.Calls.{new_world}
+use Rattle.runner.proofs.Calling.{unready}
+use Rattle.runner.proofs.Means.{means}
 use Rattle.rehearsal.proofs.Main.{all_kept}
-use Rattle.rehearsal.proofs.Mirrored.{unready, mirrors_moves}
+use Rattle.rehearsal.proofs.Mirrored.{mirrors_moves}
 use Rattle.rehearsal.proofs.rehearse.Goals as goal
 
-pub returns : goal.returns
-returns g c =
-    let ms = c.args.moves.now in
-    let start = unread_world (g.J.JournalRead.records c.args.journal) (g.J.Journal.capacity c.args.journal) (g.B.Bank.parties c.args.bank) in
-    record { after = search rules; kept = λ h. all_kept start ms h; reads = mirrors_moves start ms (unready start refl); cost = search rules }
+pub returns-clause-kept : goal.returns-clause-kept
+returns-clause-kept g c h = all_kept _ c.args.moves.now h
+
+pub returns-clause-reads : goal.returns-clause-reads
+returns-clause-reads g c = let start = new_world (means g.J.JournalRead g.J.Journal) g.B.Bank c.args.journal c.args.bank in mirrors_moves start c.args.moves.now (unready start refl)

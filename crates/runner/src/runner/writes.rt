@@ -1,34 +1,24 @@
 //! The two kinds of write that a runner makes.
-ghost use Rattle.std.specs.Prelude.{◌≡◌, ℕ, ◌+◌, ◌≤◌};
-ghost use Rattle.runner.specs.Worlds.{world, written, OneWrite, under_saga};
+ghost use Rattle.std.specs.Prelude.{◌≡◌, ℕ, ◌+◌, ◌≤◌, is_some, true};
+ghost use Rattle.runner.specs.Worlds.{world, written, with_memory, OneWrite};
 ghost use Rattle.runner.specs.Calls.{asked_answer, asked_after, event_for, outcome_of};
 
 use crate::fault::{RunnerFault, Unwritten};
 use crate::memory::Memory;
 use crate::runner::Runner;
 use bank::bank::Bank;
-use journals::fault::JournalFault;
 use journals::traits::Journal;
 use law::event::{Aim, Event, Outcome, Step};
-use participants::answer::Answer;
+use participants::answer::{Accepted, Answer};
 use terms::{Entry, Key};
-
-fn under(saga: u32, appended: Result<(), JournalFault>) -> Result<(), Unwritten>
-    ensures { result ≡ under_saga saga appended }
-{
-    match appended {
-        Ok(()) => Ok(()),
-        Err(below) => Err(Unwritten { saga, below }),
-    }
-}
 
 /// A step that stood already is done.
 fn outcome(answer: Answer) -> Outcome
     ensures { result ≡ outcome_of answer }
 {
     match answer {
-        Answer::Done | Answer::Already => Outcome::Done,
-        Answer::Refused(refusal) => Outcome::Refused(refusal),
+        Ok(Accepted::Done | Accepted::Already) => Ok(()),
+        Err(refusal) => Err(refusal),
     }
 }
 
@@ -42,6 +32,7 @@ pub(crate) fn ask<B: Bank>(bank: &mut B, saga: u32, aim: Aim, step: Step) -> Out
         saga,
         step: step.number,
     };
+    // A match and no closure: the aim is read from the journal.
     match aim {
         Aim::Stepping => outcome(bank.perform(
             step.participant,
@@ -52,11 +43,11 @@ pub(crate) fn ask<B: Bank>(bank: &mut B, saga: u32, aim: Aim, step: Step) -> Out
         )),
         Aim::Retreating(_, _) => {
             let _ = bank.undo(step.participant, key);
-            Outcome::Done
+            Ok(())
         }
         Aim::Finishing => {
             let _ = bank.settle(step.participant, key);
-            Outcome::Done
+            Ok(())
         }
     }
 }
@@ -66,8 +57,8 @@ pub(crate) fn told(aim: Aim, step: Step, outcome: Outcome) -> Event
     ensures { result ≡ event_for aim step outcome }
 {
     match (aim, outcome) {
-        (Aim::Stepping, Outcome::Done) => Event::Done(step.number),
-        (Aim::Stepping, Outcome::Refused(refusal)) => Event::Refused(step.number, refusal),
+        (Aim::Stepping, Ok(())) => Event::Done(step.number),
+        (Aim::Stepping, Err(refusal)) => Event::Refused(step.number, refusal),
         (Aim::Retreating(_, _), _) => Event::Undone(step.number),
         (Aim::Finishing, _) => Event::Settled(step.number),
     }
@@ -76,13 +67,27 @@ pub(crate) fn told(aim: Aim, step: Step, outcome: Outcome) -> Event
 impl<J: Journal, B: Bank> Runner<J, B> {
     /// Appends a record and applies it to the table: no other function appends.
     pub(crate) fn write(&mut self, saga: u32, event: Event) -> Result<(), RunnerFault>
-        ensures after { (result, world J.JournalRead.records J.Journal.capacity B.Bank.parties self.new) ≡ written saga event (world J.JournalRead.records J.Journal.capacity B.Bank.parties self.old) }
-        ensures cost { OneWrite J.Journal.writes J.Journal.lender B.Bank.writes self.old self.new }
+        requires read { is_some self.old.table ≡ true }
+        ensures after { (result, world J.Journal B.Bank self.new) ≡ written saga event (world J.Journal B.Bank self.old) }
+        ensures cost { OneWrite J.Journal B.Bank self.old self.new }
     {
-        under(saga, self.journal.append(event.to_record(saga)))?;
-        let _ = self
-            .table
-            .apply(saga, event, self.bank.count(), Memory::Blank);
+        self.journal
+            .append(event.to_record(saga))
+            .map_err(|below| Unwritten { saga, below })?;
+        if let Some(table) = &mut self.table {
+            let _ = table.apply(saga, event, self.bank.count(), None);
+        }
         Ok(())
+    }
+
+    /// Remembers what the pending step came to, or forgets it.
+    pub(crate) fn remember(&mut self, saga: u32, memory: Memory)
+        ensures after { world J.Journal B.Bank self.new ≡ with_memory saga memory (world J.Journal B.Bank self.old) }
+        ensures journal { self.new.journal ≡ self.old.journal }
+        ensures bank { self.new.bank ≡ self.old.bank }
+    {
+        if let Some(table) = &mut self.table {
+            table.note(saga, memory);
+        }
     }
 }
