@@ -1,14 +1,16 @@
 -- What was read is the beginning of what the grammar makes of some script.
-use Rattle.std.proofs.Common.{◌≡◌, ℕ, zero, suc, ◌+◌, ◌-◌, ◌≤◌, Bool, true, false, List, [], ◌∷◌, ◌++◌, length, sym, refl, ap, ◌∙◌, subst, inl, inr, append_assoc, arith}
+use Rattle.std.proofs.Common.{◌≡◌, ℕ, zero, suc, ◌+◌, ◌-◌, ◌≤◌, Bool, true, false, List, [], ◌∷◌, ◌++◌, length, sym, refl, ap, ◌∙◌, inl, inr, append_assoc, arith}
+use Rattle.std.proofs.lemmas.Bool.Decides.{nat_tests}
+use Rattle.std.proofs.lemmas.Grind.{common_steps}
 use Rattle.tokens.specs.declared.text.Token.{Token}
 use Rattle.tokens.specs.declared.text.Token.TheVariants as token
 use Rattle.tokens.specs.declared.text.Word.TheVariants as word
-use Rattle.grammar.specs.declared.Verb.{Verb}
-use Rattle.grammar.specs.declared.Verb.TheVariants as verb
+use Rattle.terms.specs.declared.Verb.{Verb}
+use Rattle.terms.specs.declared.Verb.TheVariants as verb
 use Rattle.terms.specs.declared.Request.{Request}
 use Rattle.grammar.specs.Machine.{Layout, SagaItems, Place, Part, body, other, at, filled, tagged, title, after, cell, a_tag, stock, shift, hung, did, opened, fresh}
 use Rattle.grammar.specs.Machine as machine
-use Rattle.grammar.specs.Makes.{Shaped, section_tokens, tag_section_tokens, item_tokens, items_tokens, tokens_of, Nests, AllNest}
+use Rattle.grammar.specs.Makes.{Shaped, section_tokens, tag_section_tokens, items_tokens, tokens_of, Nests, AllNest}
 use Rattle.grammar.specs.Limits.{ItemsFit, SagasFit, Valid}
 use Rattle.grammar.proofs.SoFar.{ahead, pairs, in_saga, told, sofar, Good}
 use Rattle.grammar.specs.Read.{Begins}
@@ -18,25 +20,18 @@ use Rattle.grammar.specs.declared.Section.{Section}
 use Rattle.grammar.specs.declared.Section.TheVariants.{Groups, Feeders}
 use Rattle.grammar.specs.declared.Item.{Item}
 use Rattle.grammar.specs.declared.Item.TheVariants as item
-use Rattle.grammar.proofs.Grows.{append-nil, verb_word, two, six, count_text, open_text, in_push, saga_push, did_text, stock_text, tag_text, ceiling_text, tag_value_text, all_read, more_tags_good}
-use Rattle.grammar.proofs.Keeps.{Keeps, shape_of}
+use Rattle.grammar.proofs.Grows.{verb_word, two, six, count_text, open_text, in_push, saga_push, did_text, stock_text, tag_text, ceiling_text, tag_value_text, all_read, more_tags_good}
+use Rattle.grammar.proofs.Keeps.{Keeps}
 
 -- the beginning of a beginning
 pub from : (xs zs ys : List Token) → zs ≡ xs ++ ys → Begins zs → Begins xs
-from xs zs ys e b =
-    record {
-      site = b.site;
-      sagas = b.sagas;
-      rest = ys ++ b.rest;
-      nested = b.nested;
-      made = b.made ∙ ap (λ (ts : List Token). ts ++ b.rest) e ∙ append_assoc xs ys b.rest;
-    }
+from xs zs ys e b = grind (arith, nat_tests, common_steps, append_assoc)
 
 same : (xs zs : List Token) → zs ≡ xs → Begins zs → Begins xs
-same xs zs e b = let P : List Token → Type 0 = λ ts. Begins ts in subst P e b
+same xs zs h g = grind (arith, nat_tests)
 
 whole : (l : Layout) (d : List SagaItems) → AllNest d → Begins (tokens_of l d)
-whole l d n = record { site = l; sagas = d; rest = []; nested = n; made = sym (append-nil (tokens_of l d)) }
+whole l d n = grind (arith, nat_tests, common_steps, append_assoc)
 
 -- what closes the parts around
 closers : List Part → List Item
@@ -52,11 +47,11 @@ closers_nest (other ∷ ps) = closers_nest ps
 
 all_nest_more : (d : List SagaItems) (s : SagaItems) → AllNest d → Nests [] s.1 → AllNest (d ++ s ∷ [])
 all_nest_more [] s f g = (g, tt)
-all_nest_more (x ∷ d) s f g = (f.0, all_nest_more d s f.1 g)
+all_nest_more (x ∷ d) s f g = grind (arith, nat_tests, common_steps, append_assoc, all_nest_more d s f.1 g)
 
 items_append : (is js : List Item) → items_tokens (is ++ js) ≡ items_tokens is ++ items_tokens js
 items_append [] js = refl
-items_append (i ∷ is) js = ap (λ (ts : List Token). item_tokens i ++ ts) (items_append is js) ∙ sym (append_assoc (item_tokens i) (items_tokens is) (items_tokens js))
+items_append (i ∷ is) js = grind (arith, nat_tests, common_steps, append_assoc, items_append is js)
 
 regroup : {X : Type 0} (xs ys zs ws : List X) → (xs ++ (ys ++ zs)) ++ ws ≡ (xs ++ ys) ++ (zs ++ ws)
 regroup xs ys zs ws = simp append_assoc
@@ -67,7 +62,7 @@ OpenNests o = (js : List Item) → Nests o.parts js → Nests [] (o.items ++ js)
 
 nests_more : (o : machine.Open) (i : Item) (k : ℕ) (ps : List Part) → OpenNests o → ((js : List Item) → Nests ps js → Nests o.parts (i ∷ js))
     → OpenNests (opened o.number (o.items ++ i ∷ []) k ps)
-nests_more o i k ps f h = λ js z. let Q : List Item → Type 0 = λ xs. Nests [] xs in subst Q (sym (append_assoc o.items (i ∷ []) js)) (f (i ∷ js) (h js z))
+nests_more o i k ps f h = grind (arith, nat_tests, common_steps, append_assoc)
 
 pub in_items : (l : Layout) (d : List SagaItems) (o : machine.Open) → AllNest d → OpenNests o → Begins (in_saga l d o)
 in_items l d o n f =
@@ -87,12 +82,10 @@ in_did : (l : Layout) (d : List SagaItems) (o : machine.Open) (r : Request) → 
 in_did l d o r h n f = in_items l d (did o r) n (nests_more o (item.Step r) (o.steps + 1) o.parts f (λ js z. (h, z)))
 
 stock_shaped : (back : Bool) (n g : ℕ) → Shaped (stock back n g)
-stock_shaped true n g = inl (inr refl, refl)
-stock_shaped false n g = inl (inl refl, refl)
+stock_shaped back n g = grind (arith, nat_tests)
 
 tag_shaped : (up : Bool) (a : ℕ) → Shaped (hung up a)
-tag_shaped true a = inr (inr (inr refl, refl, refl))
-tag_shaped false a = inr (inr (inl refl, refl, refl))
+tag_shaped up a = grind (arith, nat_tests)
 
 -- steps
 pub past_group : (l : Layout) (d : List SagaItems) (b : Bool) (n g : ℕ) (o : machine.Open) → AllNest d → OpenNests o → Begins (told l d (machine.group b n o) ++ token.Number g ∷ [])
@@ -184,10 +177,10 @@ past_tag_value l n ts a v g = same _ _ (sym (tag_value_text l n ts a v g)) (in_t
 -- what keeps the limits nests
 items_nest : (l : Layout) (k : ℕ) (ps : List Part) (is : List Item) → ItemsFit l k ps is → Nests ps is
 items_nest l k ps [] f = f
-items_nest l k ps (item.Step r ∷ is) f = (shape_of l r f.1, items_nest l (k + 1) ps is f.2)
-items_nest l k ps (item.Try ∷ is) f = items_nest l k (body ∷ ps) is f.1
+items_nest l k ps (item.Step r ∷ is) f = grind (arith, nat_tests, common_steps, append_assoc, items_nest l (k + 1) ps is f.2)
+items_nest l k ps (item.Try ∷ is) f = grind (arith, nat_tests, common_steps, append_assoc, items_nest l k (body ∷ ps) is f.1)
 items_nest l k [] (item.Else ∷ is) f = f
-items_nest l k (body ∷ ps) (item.Else ∷ is) f = items_nest l k (other ∷ ps) is f
+items_nest l k (body ∷ ps) (item.Else ∷ is) f = grind (arith, nat_tests, common_steps, append_assoc, items_nest l k (other ∷ ps) is f)
 items_nest l k (other ∷ ps) (item.Else ∷ is) f = f
 items_nest l k [] (item.End ∷ is) f = f
 items_nest l k (body ∷ ps) (item.End ∷ is) f = f

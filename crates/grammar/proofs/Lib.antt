@@ -1,5 +1,4 @@
 pub mod SoFar
-pub mod Sound
 pub mod Grows
 pub mod Complete
 pub mod Keeps
@@ -8,3 +7,4 @@ pub mod Stops
 pub mod Beginnings
 pub mod Numbers
 pub mod Reading
+pub mod Listed

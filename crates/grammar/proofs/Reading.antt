@@ -1,7 +1,8 @@
 -- A text is accepted exactly if it is a script; a refusal tells its first fault.
-use Rattle.std.proofs.Common.{◌≡◌, ℕ, zero, suc, ◌+◌, ◌-◌, ◌<◌, ◌≤◌, false, List, [], ◌∷◌, ◌++◌, length, take, Ok, Err, vec_items, Result, sym, refl, ap, ◌∙◌, subst, inl, inr, arith, length-take}
+use Rattle.std.proofs.Common.{◌≡◌, ℕ, zero, suc, ◌+◌, ◌-◌, ◌<◌, ◌≤◌, List, [], ◌∷◌, ◌++◌, length, take, Ok, Err, vec_items, Result, sym, refl, ap, ◌∙◌, subst, inl, inr, arith, length-take}
+use Rattle.std.proofs.lemmas.Bool.Decides.{nat_tests}
 use Rattle.std.proofs.lemmas.List.{take_all}
-use Rattle.std.proofs.lemmas.Bool.{cond_both, false≢true, lt-ltb, le-ltb, cases_lt}
+use Rattle.std.proofs.lemmas.Bool.{cond_both, lt-ltb, le-ltb, cases_lt}
 use Rattle.tokens.specs.Bytes.{member}
 use Rattle.tokens.specs.Readers.{code_of}
 use Rattle.tokens.specs.Tokens.{lex, lead, tokens_from, first}
@@ -12,7 +13,7 @@ use Rattle.tokens.specs.declared.text.Cause.{Cause}
 use Rattle.tokens.specs.declared.text.Cause.TheVariants.{Grammar}
 use Rattle.tokens.specs.declared.text.Fault.{Fault}
 use Rattle.tokens.specs.declared.text.Fault.TheVariants.{Memory, At}
-use Rattle.tokens.proofs.Lexing.{is_end, lead_not_end}
+use Rattle.tokens.proofs.Lexing.{lead_not_end}
 use Rattle.grammar.specs.Machine.{Layout, SagaItems, State, Answer, at, step, run, start}
 use Rattle.grammar.specs.Machine as machine
 use Rattle.grammar.specs.Makes.{shown, without_places}
@@ -21,21 +22,15 @@ use Rattle.grammar.specs.Read.{IsScript, judged, Begins, NotAllowed, Lacking, Nu
 use Rattle.grammar.specs.Lists.{lists_of, sagas_of}
 use Rattle.grammar.specs.declared.Script.{Script}
 use Rattle.grammar.proofs.Grows.{accepted_is_made}
-use Rattle.grammar.proofs.Complete.{Plain, accept, then, script_accepted, made_is_accepted}
+use Rattle.grammar.proofs.Complete.{Plain, accept, script_accepted, made_is_accepted}
 use Rattle.grammar.proofs.Stops.{Stop, stops, ended}
 use Rattle.grammar.proofs.Beginnings.{begins}
 use Rattle.grammar.proofs.Numbers.{number_fits}
 use Rattle.grammar.proofs.Loose.{loosely, allow, lacks, script_allowed}
 
 -- the tokens of a text have no End among them
-shown_some : (t : Token) → is_end t ≡ false → shown t ≡ t ∷ []
-shown_some (token.Word w) e = refl
-shown_some (token.Name n) e = refl
-shown_some (token.Number n) e = refl
-shown_some token.Open e = refl
-shown_some token.Close e = refl
-shown_some (token.Bad c) e = refl
-shown_some token.End e = absurd (false≢true (sym e))
+shown_some : (t : Token) → (t ≡ token.End → ⊥) → shown t ≡ t ∷ []
+shown_some t e = grind arith
 
 plain : (k at : ℕ) (s : List ℕ) → Plain (lex k at s)
 plain k at [] = tt
@@ -84,13 +79,7 @@ never_long text s h =
 
 -- a token that the grammar does not take in a state does not come there in any script
 stuck : (s : State) (t : Token) (us : List Token) (c : Cause) → step s t ≡ Err c → (t ≡ token.End → us ≡ []) → accept s (shown t ++ us) ≡ Err c
-stuck s (token.Word w) us c e h = ap (λ (r : Result State Cause). then r (λ u. accept u us)) e
-stuck s (token.Name n) us c e h = ap (λ (r : Result State Cause). then r (λ u. accept u us)) e
-stuck s (token.Number n) us c e h = ap (λ (r : Result State Cause). then r (λ u. accept u us)) e
-stuck s token.Open us c e h = ap (λ (r : Result State Cause). then r (λ u. accept u us)) e
-stuck s token.Close us c e h = ap (λ (r : Result State Cause). then r (λ u. accept u us)) e
-stuck s (token.Bad g) us c e h = ap (λ (r : Result State Cause). then r (λ u. accept u us)) e
-stuck s token.End us c e h = ap (λ (xs : List Token). accept s xs) (h refl) ∙ e
+stuck s t us c h g = grind (arith, nat_tests)
 
 not_allowed : {end : ℕ} {ts : List (Token × ℕ)} {c : Cause} {p : ℕ} (m : Stop end start ts c p) → NotAllowed (without_places m.before) (first end m.rest).0
 not_allowed {end = end} {c = c} m = λ l d v a.
@@ -101,13 +90,7 @@ not_allowed {end = end} {c = c} m = λ l d v a.
     ∙ script_accepted l d v)
 
 stuck_loosely : (s : State) (t : Token) (us : List Token) (c : Cause) → loosely s t ≡ Err c → (t ≡ token.End → us ≡ []) → allow s (shown t ++ us) ≡ Err c
-stuck_loosely s (token.Word w) us c e h = ap (λ (r : Result State Cause). then r (λ u. allow u us)) e
-stuck_loosely s (token.Name n) us c e h = ap (λ (r : Result State Cause). then r (λ u. allow u us)) e
-stuck_loosely s (token.Number n) us c e h = ap (λ (r : Result State Cause). then r (λ u. allow u us)) e
-stuck_loosely s token.Open us c e h = ap (λ (r : Result State Cause). then r (λ u. allow u us)) e
-stuck_loosely s token.Close us c e h = ap (λ (r : Result State Cause). then r (λ u. allow u us)) e
-stuck_loosely s (token.Bad g) us c e h = ap (λ (r : Result State Cause). then r (λ u. allow u us)) e
-stuck_loosely s token.End us c e h = ap (λ (xs : List Token). allow s xs) (h refl) ∙ e
+stuck_loosely s t us c h g = grind (arith, nat_tests)
 
 lacking : {end : ℕ} {ts : List (Token × ℕ)} {c : Cause} {p : ℕ} (m : Stop end start ts c p) → c ≡ Grammar → Lacking (without_places m.before) (first end m.rest).0
 lacking {end = end} m e = λ l d n a.
@@ -139,13 +122,7 @@ faulty text c p h =
     }
 
 fault_same : {c e : Cause} {p q : ℕ} → ◌≡◌ {A = Answer} (Err (At c p)) (Err (At e q)) → (code_of e ≡ code_of c) × (q ≡ p)
-fault_same e = (ap code_of (sym (causes e)), sym (places e))
-  where
-    causes : {c e : Cause} {p q : ℕ} → ◌≡◌ {A = Answer} (Err (At c p)) (Err (At e q)) → c ≡ e
-    causes h = cc
-
-    places : {c e : Cause} {p q : ℕ} → ◌≡◌ {A = Answer} (Err (At c p)) (Err (At e q)) → p ≡ q
-    places h = cc
+fault_same h = grind (arith, nat_tests)
 
 -- past 16,384 bytes
 over : (text : List ℕ) (a : Answer) (c : Cause) (p : ℕ) → 16384 < length text → outcome (judged text) ≡ a → too_long a ≡ Err (At c p) → FirstFault text (code_of c) p

@@ -1,18 +1,20 @@
 -- Where a run of the grammar stops.
 use Rattle.std.proofs.Common.{◌≡◌, ℕ, ◌⊎◌, List, [], ◌∷◌, ◌++◌, Ok, Err, Result, sym, refl, ap, ◌∙◌, inl, inr, append_assoc, arith}
+use Rattle.std.proofs.lemmas.List.{append-nil}
+use Rattle.std.proofs.lemmas.Bool.Decides.{nat_tests}
+use Rattle.std.proofs.lemmas.Grind.{common_steps}
 use Rattle.tokens.specs.Tokens.{first}
 use Rattle.tokens.specs.declared.text.Token.{Token}
 use Rattle.tokens.specs.declared.text.Token.TheVariants as token
 use Rattle.tokens.specs.declared.text.Cause.{Cause}
-use Rattle.tokens.specs.declared.text.Fault.{Fault}
 use Rattle.tokens.specs.declared.text.Fault.TheVariants.{At}
 use Rattle.grammar.specs.Machine.{State, Answer, step, run, at_end, onward}
 use Rattle.grammar.specs.Machine as machine
 use Rattle.grammar.specs.Makes.{shown, without_places}
 use Rattle.grammar.proofs.SoFar.{sofar, Good}
-use Rattle.grammar.proofs.Grows.{append-nil, grows, at_end_ok, on_ok, last}
+use Rattle.grammar.proofs.Grows.{grows, on_ok}
 use Rattle.grammar.proofs.Keeps.{Kept, keeps}
-use Rattle.grammar.proofs.Complete.{Plain, accept, then}
+use Rattle.grammar.proofs.Complete.{Plain, accept}
 use Rattle.grammar.proofs.Loose.{loosely, allow, loosened}
 
 pub record Stop (end : ℕ) (s : State) (ts : List (Token × ℕ)) (c : Cause) (p : ℕ) : Type 0 where
@@ -28,25 +30,18 @@ pub record Stop (end : ℕ) (s : State) (ts : List (Token × ℕ)) (c : Cause) (
   pub good : Good state.sagas state.place
   pub kept : Kept state
 
-not_err : {f : Fault} {x : State} → ◌≡◌ {A = Result State Fault} (Ok x) (Err f) → ⊥
-not_err e = grind arith
-
 end_err : (r : Result State Cause) (q : ℕ) (c : Cause) (p : ℕ) → at_end r q ≡ Err (At c p) → (r ≡ Err c) × (q ≡ p)
-end_err (Ok s) q c p h = absurd (not_err h)
-end_err (Err e) q c p h = (cc, cc)
+end_err r q c p h = grind (arith, nat_tests)
 
 on_err : (r : Result State Cause) (q : ℕ) (k : State → Answer) (c : Cause) (p : ℕ) → onward r q k ≡ Err (At c p)
     → ((r ≡ Err c) × (q ≡ p)) ⊎ ((v : State) × (r ≡ Ok v) × (k v ≡ Err (At c p)))
-on_err (Ok v) q k c p h = inr (v, refl, h)
-on_err (Err e) q k c p h = inl (cc, cc)
+on_err r q k c p h = grind (arith, nat_tests)
 
 led : (s v : State) (t : Token) (bs xs : List Token) → shown t ≡ t ∷ [] → step s t ≡ Ok v → accept s ((shown t ++ bs) ++ xs) ≡ accept v (bs ++ xs)
-led s v t bs xs p e =
-    ap (λ (zs : List Token). accept s ((zs ++ bs) ++ xs)) p ∙ ap (λ (r : Result State Cause). then r (λ u. accept u (bs ++ xs))) e
+led s v t bs xs h g = grind (arith, nat_tests)
 
 led_loosely : (s v : State) (t : Token) (bs xs : List Token) → shown t ≡ t ∷ [] → loosely s t ≡ Ok v → allow s ((shown t ++ bs) ++ xs) ≡ allow v (bs ++ xs)
-led_loosely s v t bs xs p e =
-    ap (λ (zs : List Token). allow s ((zs ++ bs) ++ xs)) p ∙ ap (λ (r : Result State Cause). then r (λ u. allow u (bs ++ xs))) e
+led_loosely s v t bs xs h g = grind (arith, nat_tests)
 
 pub stops : (end : ℕ) (ts : List (Token × ℕ)) (s : State) (c : Cause) (p : ℕ) → Plain ts → Good s.sagas s.place → Kept s → run end s ts ≡ Err (At c p) → Stop end s ts c p
 stops end [] s c p pl g k h =
@@ -77,9 +72,7 @@ stops end (t ∷ ts) s c p pl g k h = elim (on_err (step s t.0) t.1 (λ u. run e
 
 -- a whole run keeps the limits
 pub ended : (end : ℕ) (ts : List (Token × ℕ)) (s u : State) → Good s.sagas s.place → Kept s → run end s ts ≡ Ok u → Kept u × (u.place ≡ machine.sagas)
-ended end [] s u g k h =
-    let e = at_end_ok (step s token.End) end u h in
-    (keeps s.layout s.sagas s.place token.End u g k e, last s.layout s.sagas s.place u e)
+ended end [] s u g k h = grind (arith, nat_tests, common_steps, append_assoc)
 ended end (t ∷ ts) s u g k h =
     let r = on_ok (step s t.0) t.1 (λ v. run end v ts) u h in
     let w = grows s.layout s.sagas s.place t.0 r.0 g r.1 in

@@ -1,12 +1,12 @@
 //! What a script is, and what the grammar makes of it.
 #![tactic(auto)]
 
-use terms::{Level, Request, Tag};
+use terms::{Level, Request, Tag, Verb};
 
 pub mod readers;
 
 /// The sections of the site that list cells.
-#[derive(Clone, Copy)]
+#[derive(Clone, Copy, Debug, PartialEq, Eq)]
 pub enum Section {
     Groups,
     Feeders,
@@ -20,8 +20,9 @@ pub struct Site {
     pub tags: Vec<Tag>,
 }
 
+// A flat list and no tree: the run walks it from front to back, and it is one allocation.
 /// A saga's items as they stand in the text. A try is `Try`, its body, `Else`, its other part, `End`.
-#[derive(Clone, Copy)]
+#[derive(Clone, Copy, Debug, PartialEq, Eq)]
 pub enum Item {
     Step(Request),
     Try,
@@ -43,18 +44,9 @@ pub struct Script {
     pub sagas: Vec<Saga>,
 }
 
-/// The words that begin a step.
-#[derive(Clone, Copy)]
-pub enum Verb {
-    Claim,
-    Return,
-    Move,
-    Hang,
-    Lift,
-}
-
 /// What an item begins with, or the brace after the last one.
-#[derive(Clone, Copy)]
+// `Close` and no `Option`: the reader goes on after it as after any other head.
+#[derive(Clone, Copy, Debug, PartialEq, Eq)]
 pub enum Head {
     Step(Verb),
     Group,

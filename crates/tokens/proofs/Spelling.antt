@@ -1,5 +1,6 @@
 -- How words are spelt.
-use Rattle.std.proofs.Common.{◌≡◌, ℕ, true, List, codes, sym, refl, ap, ◌∙◌}
+use Rattle.std.proofs.Common.{◌≡◌, ℕ, true, cond, List, [], ◌∷◌, length, get_or, sym, refl, ap, ◌∙◌, arith}
+use Rattle.std.proofs.lemmas.Grind.{common_steps}
 use Rattle.std.proofs.lemmas.Bool.{cond_both}
 use Rattle.std.proofs.lemmas.Slice.Eq.{bytes_eq-Decides}
 use Rattle.tokens.specs.Words.{same, word_of, spelling, WordsAreSpelt}
@@ -28,28 +29,32 @@ there From = refl
 there To = refl
 there Other = refl
 
--- bytes that are read as v
-found : (s : List ℕ) (v w : Word) → s ≡ spelling v → v ≡ w → s ≡ spelling w
-found s v w p e = p ∙ ap spelling e
+spelt : (s : List ℕ) (w v u : Word) → (u ≡ w → (w ≡ Other → ⊥) → s ≡ spelling w) → cond (same s (spelling v)) v u ≡ w → (w ≡ Other → ⊥) → s ≡ spelling w
+spelt s w v u k =
+    cond_both (same s (spelling v)) v u (λ x. x ≡ w → (w ≡ Other → ⊥) → s ≡ spelling w)
+    (λ h e n. same_bytes s (spelling v) h ∙ ap spelling e) (λ _. k)
 
 back : (s : List ℕ) (w : Word) → word_of s ≡ w → (w ≡ Other → ⊥) → s ≡ spelling w
 back s w =
-    let P : Word → Type 0 = λ v. v ≡ w → (w ≡ Other → ⊥) → s ≡ spelling w in
-    cond_both (same s (codes "groups")) _ _ P (λ h e n. found s Groups w (same_bytes s (codes "groups") h) e) (λ _.
-    cond_both (same s (codes "feeders")) _ _ P (λ h e n. found s Feeders w (same_bytes s (codes "feeders") h) e) (λ _.
-    cond_both (same s (codes "tags")) _ _ P (λ h e n. found s Tags w (same_bytes s (codes "tags") h) e) (λ _.
-    cond_both (same s (codes "saga")) _ _ P (λ h e n. found s Saga w (same_bytes s (codes "saga") h) e) (λ _.
-    cond_both (same s (codes "claim")) _ _ P (λ h e n. found s Claim w (same_bytes s (codes "claim") h) e) (λ _.
-    cond_both (same s (codes "return")) _ _ P (λ h e n. found s Return w (same_bytes s (codes "return") h) e) (λ _.
-    cond_both (same s (codes "move")) _ _ P (λ h e n. found s Move w (same_bytes s (codes "move") h) e) (λ _.
-    cond_both (same s (codes "hang")) _ _ P (λ h e n. found s Hang w (same_bytes s (codes "hang") h) e) (λ _.
-    cond_both (same s (codes "lift")) _ _ P (λ h e n. found s Lift w (same_bytes s (codes "lift") h) e) (λ _.
-    cond_both (same s (codes "try")) _ _ P (λ h e n. found s Try w (same_bytes s (codes "try") h) e) (λ _.
-    cond_both (same s (codes "else")) _ _ P (λ h e n. found s Else w (same_bytes s (codes "else") h) e) (λ _.
-    cond_both (same s (codes "of")) _ _ P (λ h e n. found s Of w (same_bytes s (codes "of") h) e) (λ _.
-    cond_both (same s (codes "from")) _ _ P (λ h e n. found s From w (same_bytes s (codes "from") h) e) (λ _.
-    cond_both (same s (codes "to")) _ _ P (λ h e n. found s To w (same_bytes s (codes "to") h) e) (λ _.
-    λ e n. absurd (n (sym e))))))))))))))))
+    let then = spelt s w in
+    then Groups _ (then Feeders _ (then Tags _ (then Saga _ (then Claim _ (then Return _ (then Move _
+    (then Hang _ (then Lift _ (then Try _ (then Else _ (then Of _ (then From _ (then To _ (λ e n. absurd (n (sym e))))))))))))))))
+
+-- a text of four to seven bytes, each by its place
+pub four : (s : List ℕ) → length s ≡ 4 → s ≡ get_or s 0 0 ∷ get_or s 1 0 ∷ get_or s 2 0 ∷ get_or s 3 0 ∷ []
+four s h = grind (arith, common_steps)
+
+pub five : (s : List ℕ) → length s ≡ 5 → s ≡ get_or s 0 0 ∷ get_or s 1 0 ∷ get_or s 2 0 ∷ get_or s 3 0 ∷ get_or s 4 0 ∷ []
+five [] h = absurd (omega arith)
+five (b ∷ s) h = ap (λ (t : List ℕ). b ∷ t) (four s (omega arith))
+
+pub six : (s : List ℕ) → length s ≡ 6 → s ≡ get_or s 0 0 ∷ get_or s 1 0 ∷ get_or s 2 0 ∷ get_or s 3 0 ∷ get_or s 4 0 ∷ get_or s 5 0 ∷ []
+six [] h = absurd (omega arith)
+six (b ∷ s) h = ap (λ (t : List ℕ). b ∷ t) (five s (omega arith))
+
+pub seven : (s : List ℕ) → length s ≡ 7 → s ≡ get_or s 0 0 ∷ get_or s 1 0 ∷ get_or s 2 0 ∷ get_or s 3 0 ∷ get_or s 4 0 ∷ get_or s 5 0 ∷ get_or s 6 0 ∷ []
+seven [] h = absurd (omega arith)
+seven (b ∷ s) h = ap (λ (t : List ℕ). b ∷ t) (six s (omega arith))
 
 pub words_are_spelt : WordsAreSpelt
 words_are_spelt = record { there = there; back = back }
