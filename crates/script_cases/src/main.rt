@@ -6,8 +6,8 @@ ghost use Rattle.std.specs.Prelude.{◌≤◌, length, IfOk, vec_len};
 
 use grammar::{Item, Script};
 use std::alloc::{AllocError, Global};
-use std::io;
-use terms::Level;
+use std::{fmt, io};
+use terms::{Level, Request};
 use tokens::text::Fault;
 
 const BLANKS: [u8; 256] = [b' '; 256];
@@ -27,61 +27,73 @@ fn text_of(heap: Global, line: &[u8]) -> Result<Vec<u8>, AllocError>
     Ok(text)
 }
 
-fn show_cells(rt: &HostRuntime, word: &str, cells: &[Level]) -> io::Result<()> {
-    let count = cells.len();
-    print!(rt; "{word} {count}")?;
-    for cell in cells {
-        let value = cell.value;
-        let ceiling = cell.ceiling;
-        print!(rt; " {value} {ceiling}")?;
-    }
-    Ok(())
+/// The cells of a section, after its word and their count.
+#[derive(Clone, Copy)]
+struct Cells<'a> {
+    word: &'a str,
+    cells: &'a [Level],
 }
 
-fn show_item(rt: &HostRuntime, item: Item) -> io::Result<()> {
-    match item {
-        Item::Try => print!(rt; " try"),
-        Item::Else => print!(rt; " else"),
-        Item::End => print!(rt; " end"),
-        Item::Step(request) => {
-            let verb = request.verb;
-            let amount = request.amount;
-            let a = request.a;
-            let b = request.b;
-            print!(rt; " {verb}:{amount}:{a}:{b}")
+impl<'a> fmt::Display for Cells<'a> {
+    fn fmt<W: fmt::Write>(&self, f: &mut fmt::Formatter<W>) -> fmt::Result {
+        write!(f, "{} {}", self.word, self.cells.len())?;
+        for cell in self.cells {
+            write!(f, " {} {}", cell.value, cell.ceiling)?;
+        }
+        Ok(())
+    }
+}
+
+/// An item; of a step the numbers of its request.
+#[derive(Clone, Copy)]
+struct ShownItem(Item);
+
+impl fmt::Display for ShownItem {
+    fn fmt<W: fmt::Write>(&self, f: &mut fmt::Formatter<W>) -> fmt::Result {
+        match self.0 {
+            Item::Try => f.write_str("try"),
+            Item::Else => f.write_str("else"),
+            Item::End => f.write_str("end"),
+            Item::Step(Request { verb, amount, a, b }) => write!(f, "{verb}:{amount}:{a}:{b}"),
         }
     }
 }
 
-fn show(rt: &HostRuntime, script: &Script) -> io::Result<()> {
-    show_cells(rt, "groups", &script.site.groups)?;
-    show_cells(rt, " feeders", &script.site.feeders)?;
-    let count = script.site.tags.len();
-    print!(rt; " tags {count}")?;
-    for tag in script.site.tags.iter() {
-        let name = tag.name;
-        let value = tag.value;
-        print!(rt; " {name} {value}")?;
-    }
-    for saga in script.sagas.iter() {
-        let number = saga.number;
-        print!(rt; " saga {number}")?;
-        for item in saga.items.iter() {
-            show_item(rt, *item)?;
+/// A script on one line.
+#[derive(Clone, Copy)]
+struct Shown<'a>(&'a Script);
+
+impl<'a> fmt::Display for Shown<'a> {
+    fn fmt<W: fmt::Write>(&self, f: &mut fmt::Formatter<W>) -> fmt::Result {
+        let site = &self.0.site;
+        let groups = Cells {
+            word: "groups",
+            cells: &site.groups,
+        };
+        let feeders = Cells {
+            word: "feeders",
+            cells: &site.feeders,
+        };
+        write!(f, "{groups} {feeders} tags {}", site.tags.len())?;
+        for tag in site.tags.iter() {
+            write!(f, " {} {}", tag.name, tag.value)?;
         }
+        for saga in self.0.sagas.iter() {
+            write!(f, " saga {}", saga.number)?;
+            for item in saga.items.iter() {
+                write!(f, " {}", ShownItem(*item))?;
+            }
+        }
+        Ok(())
     }
-    println!(rt; "")
 }
 
 fn show_case(rt: &HostRuntime, line: &[u8]) -> io::Result<()> {
     let text = text_of(rt.alloc(), line)?;
     match script::read(rt.alloc(), &text) {
-        Ok(script) => show(rt, &script),
+        Ok(script) => println!(rt; "{}", Shown(&script)),
         Err(Fault::Memory) => println!(rt; "no memory"),
-        Err(Fault::At(cause, at)) => {
-            let code = cause.code();
-            println!(rt; "fault {code} at {at}")
-        }
+        Err(Fault::At(cause, at)) => println!(rt; "fault {} at {at}", u8::from(cause)),
     }
 }
 

@@ -1,97 +1,125 @@
 //! The lines that are printed.
+use crate::kind::Kind;
 use bank::bank::Bank;
 use grammar::Site;
 use journals::traits::JournalRead;
 use law::event::Event;
-use std::io;
-use terms::{CLAIM, HANG, LIFT, MOVE, RETURN, Request};
+use std::{fmt, io};
+use terms::{Request, Verb};
 
-/// The letters of a tag's name, which are the bytes of its number.
-fn print_name(rt: &HostRuntime, name: u64) -> io::Result<()> {
-    for byte in name.to_be_bytes() {
-        if byte != 0 {
-            let letter = byte as char;
-            print!(rt; "{letter}")?;
-        }
-    }
-    Ok(())
-}
+/// A tag's name, which is a number whose bytes are its letters.
+#[derive(Clone, Copy)]
+struct TagName(u64);
 
-fn print_request(rt: &HostRuntime, request: &Request) -> io::Result<()> {
-    let amount = request.amount;
-    let a = request.a;
-    let b = request.b;
-    match request.verb {
-        CLAIM => print!(rt; "claim {amount} of {a}"),
-        RETURN => print!(rt; "return {amount} of {a}"),
-        MOVE => print!(rt; "move {amount} from {a} to {b}"),
-        HANG => {
-            print!(rt; "hang ")?;
-            print_name(rt, a)
+impl fmt::Display for TagName {
+    fn fmt<W: fmt::Write>(&self, f: &mut fmt::Formatter<W>) -> fmt::Result {
+        for byte in self.0.to_be_bytes() {
+            if byte != 0 {
+                f.write_char(char::from(byte))?;
+            }
         }
-        LIFT => {
-            print!(rt; "lift ")?;
-            print_name(rt, a)
-        }
-        _ => print!(rt; "request"),
+        Ok(())
     }
 }
 
-fn print_event(rt: &HostRuntime, saga: u32, event: Event) -> io::Result<()> {
-    match event {
-        Event::Begin => println!(rt; "{saga} begin"),
-        Event::Intent(step) => {
-            let number = step.number;
-            print!(rt; "{saga}.{number} ")?;
-            print_request(rt, &step.request)?;
-            println!(rt; "")
+/// What a step asks, in the words of a script.
+#[derive(Clone, Copy)]
+struct Asked(Request);
+
+impl fmt::Display for Asked {
+    fn fmt<W: fmt::Write>(&self, f: &mut fmt::Formatter<W>) -> fmt::Result {
+        let Request { verb, amount, a, b } = self.0;
+        match Verb::try_from(verb) {
+            Ok(Verb::Claim) => write!(f, "claim {amount} of {a}"),
+            Ok(Verb::Return) => write!(f, "return {amount} of {a}"),
+            Ok(Verb::Move) => write!(f, "move {amount} from {a} to {b}"),
+            Ok(Verb::Hang) => write!(f, "hang {}", TagName(a)),
+            Ok(Verb::Lift) => write!(f, "lift {}", TagName(a)),
+            Err(_) => f.write_str("request"),
         }
-        Event::Done(step) => println!(rt; "{saga}.{step} done"),
-        Event::Refused(step, refusal) => {
-            let code = refusal.code();
-            println!(rt; "{saga}.{step} refused {code}")
-        }
-        Event::Mark => println!(rt; "{saga} mark"),
-        Event::Join => println!(rt; "{saga} join"),
-        Event::Back(depth) => println!(rt; "{saga} back {depth}"),
-        Event::Undone(step) => println!(rt; "{saga}.{step} undone"),
-        Event::Finish => println!(rt; "{saga} finish"),
-        Event::Settled(step) => println!(rt; "{saga}.{step} settled"),
-        Event::Unlawful => Ok(()),
     }
 }
 
-/// A line for each record.
+/// A record's line.
+#[derive(Clone, Copy)]
+struct Line {
+    saga: u32,
+    event: Event,
+}
+
+impl fmt::Display for Line {
+    fn fmt<W: fmt::Write>(&self, f: &mut fmt::Formatter<W>) -> fmt::Result {
+        let saga = self.saga;
+        match self.event {
+            Event::Begin => write!(f, "{saga} begin"),
+            Event::Intent(step) => write!(f, "{saga}.{} {}", step.number, Asked(step.request)),
+            Event::Done(step) => write!(f, "{saga}.{step} done"),
+            Event::Refused(step, refusal) => {
+                write!(f, "{saga}.{step} refused {}", u16::from(refusal))
+            }
+            Event::Mark => write!(f, "{saga} mark"),
+            Event::Join => write!(f, "{saga} join"),
+            Event::Back(depth) => write!(f, "{saga} back {depth}"),
+            Event::Undone(step) => write!(f, "{saga}.{step} undone"),
+            Event::Finish => write!(f, "{saga} finish"),
+            Event::Settled(step) => write!(f, "{saga}.{step} settled"),
+        }
+    }
+}
+
+/// A line for each record that says something.
 pub(crate) fn print_journal<J: JournalRead>(rt: &HostRuntime, journal: &J) -> io::Result<()> {
-    for i in 0..journal.count() {
-        if let Some(record) = journal.entry(i) {
-            print_event(rt, record.saga, Event::of(&record))?;
+    for record in journal.entries() {
+        if let Ok(event) = Event::try_from(record) {
+            let saga = record.saga;
+            println!(rt; "{}", Line { saga, event })?;
         }
     }
     Ok(())
 }
 
-fn print_value<B: Bank>(rt: &HostRuntime, bank: &B, participant: u8, cell: u64) -> io::Result<()> {
-    match bank.value(participant, cell) {
-        Some(value) => println!(rt; " {value}"),
-        None => println!(rt; ""),
+/// What a cell's line ends with: its value, where its participant has the cell.
+#[derive(Clone, Copy)]
+struct CellValue(Option<u32>);
+
+impl fmt::Display for CellValue {
+    fn fmt<W: fmt::Write>(&self, f: &mut fmt::Formatter<W>) -> fmt::Result {
+        match self.0 {
+            Some(value) => write!(f, " {value}"),
+            None => Ok(()),
+        }
     }
+}
+
+fn value<B: Bank>(bank: &B, kind: Kind, cell: u64) -> CellValue {
+    CellValue(bank.value(u8::from(kind), cell))
+}
+
+/// A line for each group or feeder: `count` cells, by number.
+fn print_levels<B: Bank>(
+    rt: &HostRuntime,
+    bank: &B,
+    kind: Kind,
+    word: &str,
+    count: usize,
+) -> io::Result<()> {
+    for cell in 1..=count as u64 {
+        println!(rt; "{word} {cell}{}", value(bank, kind, cell))?;
+    }
+    Ok(())
 }
 
 /// A line for each cell: groups, feeders and tags, as the site lists them.
 pub(crate) fn print_cells<B: Bank>(rt: &HostRuntime, bank: &B, site: &Site) -> io::Result<()> {
-    for group in 1..site.groups.len().saturating_add(1) {
-        print!(rt; "group {group}")?;
-        print_value(rt, bank, 1, group as u64)?;
-    }
-    for feeder in 1..site.feeders.len().saturating_add(1) {
-        print!(rt; "feeder {feeder}")?;
-        print_value(rt, bank, 2, feeder as u64)?;
-    }
+    print_levels(rt, bank, Kind::Stock, "group", site.groups.len())?;
+    print_levels(rt, bank, Kind::Ledger, "feeder", site.feeders.len())?;
     for tag in site.tags.iter() {
-        print!(rt; "tag ")?;
-        print_name(rt, tag.name)?;
-        print_value(rt, bank, 3, tag.name)?;
+        let name = tag.name;
+        println!(rt;
+            "tag {}{}",
+            TagName(name),
+            value(bank, Kind::Registry, name)
+        )?;
     }
     Ok(())
 }

@@ -2,6 +2,7 @@
 //! slots, and prints what the journal says and every cell. A saga with a try is not taken yet.
 #![tactic(auto)]
 
+mod kind;
 mod lines;
 mod saga;
 
@@ -44,8 +45,7 @@ fn main(rt: HostRuntime) -> anyhow::Result<ExitCode> {
             Ok(ExitCode::SUCCESS)
         }
         Err(Fault::At(cause, at)) => {
-            let code = cause.code();
-            println!(rt; "fault {code} at {at}")?;
+            println!(rt; "fault {} at {at}", u8::from(cause))?;
             Ok(ExitCode::FAILURE)
         }
         Err(Fault::Memory) => Err(anyhow!("no memory")),
