@@ -12,9 +12,10 @@ use terms::{Entry, Key};
 pub trait Bank {
     ghost parties: { Self → List Party };
 
-    // How many writes its participants have made.
+    // How many writes its participants have made. `cost` stands at each call that writes, since it relates two states.
     ghost writes: { Self → ℕ };
 
+    // An index and a key are passed apart, here and below: a struct of them would be built only to be taken apart.
     fn perform(&mut self, participant: u8, entry: Entry) -> Answer
         ensures answer { result ≡ do_answer (party_at (parties self.old) participant) entry }
         ensures after { parties self.new ≡ change_at (parties self.old) participant (λ p. do_after p entry) }

@@ -5,6 +5,7 @@ ghost use Rattle.participants.specs.Effects.{takes, gives, effect, other_cell_fi
 use crate::cell::{Cell, Side, has_cell};
 use terms::{Request, Verb};
 
+// Request and cell are passed apart, here and below: one request is asked of every cell.
 pub(crate) fn take_of(q: &Request, cell: u64) -> u32
     ensures { result ≡ takes cell q.now }
 {

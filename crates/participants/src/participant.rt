@@ -9,7 +9,8 @@ use terms::{Entry, Key};
 pub trait Participant {
     ghost means: { Self → Party };
 
-    // How many writes it has made: each of perform, undo and settle makes at most one.
+    // How many writes it has made: each of perform, undo and settle makes at most one. `cost` stands at each of them, since it
+    // relates two states.
     ghost writes: { Self → ℕ };
 
     /// Lets an entry in, or says why not. An entry that stands already may be asked for again.

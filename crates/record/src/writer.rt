@@ -14,6 +14,7 @@ pub trait ByteWriter {
     // The writer after one write.
     ghost next: { Self → Self };
 
+    // Place and byte are passed apart, here and below: a struct of them would be built only to be taken apart.
     /// Writes one byte to a place.
     fn put(&mut self, bytes: &mut [u8], place: usize, byte: u8)
         ensures bytes { bytes.new ≡ wrote self.old (write place byte) bytes.old }
