@@ -3,7 +3,7 @@
 
     python3 tools/places.py [POINT ..]      in the top folder of a checkout
 
-Each line is a place: FILE:LINE and its text. What a line is judged to be is in docs/DESIGN-PASS.md."""
+Each line may be one: FILE:LINE and its text. What a line is judged to be is in docs/DESIGN-PASS.md."""
 import re, sys, glob, itertools, collections
 
 FILES = sorted(glob.glob('crates/*/src/**/*.rt', recursive=True))

@@ -45,7 +45,7 @@ pub struct Script {
 }
 
 /// What an item begins with, or the brace after the last one.
-// `Close` and no `Option`: the reader goes on after it as after any other head.
+// `Close` and no `Option`: it is one of the three things that may come, and an Option would only rename it.
 #[derive(Clone, Copy, Debug, PartialEq, Eq)]
 pub enum Head {
     Step(Verb),

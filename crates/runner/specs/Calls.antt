@@ -179,7 +179,7 @@ abbrev pub progress_number : Progress → ℕ
 progress_number Called = 1
 progress_number Recorded = 2
 
--- advance: 30, 32, 36; the call, answered 1, and then the record, answered 2
+-- advance: 30, 32, 36; the call, and then the record
 abbrev pub advance_by : ℕ → World → Phase → Memory → Result Progress RunnerFault × World
 advance_by s w Running m = (Err WrongPhase, w)
 advance_by s w Closed m = (Err WrongPhase, w)

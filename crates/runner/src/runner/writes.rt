@@ -9,17 +9,14 @@ use crate::runner::Runner;
 use bank::bank::Bank;
 use journals::traits::Journal;
 use law::event::{Aim, Event, Outcome, Step};
-use participants::answer::{Accepted, Answer};
+use participants::answer::Answer;
 use terms::{Entry, Key};
 
 /// A step that stood already is done.
 fn outcome(answer: Answer) -> Outcome
     ensures { result ≡ outcome_of answer }
 {
-    match answer {
-        Ok(Accepted::Done | Accepted::Already) => Ok(()),
-        Err(refusal) => Err(refusal),
-    }
+    answer.map(|_| ())
 }
 
 /// The participant call that the law has next.

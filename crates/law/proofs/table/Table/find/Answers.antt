@@ -1,4 +1,5 @@
-use Rattle.std.proofs.Common.{Some, sym, ap, ◌∙◌}
+use Rattle.std.proofs.Common.{◌≡◌, None, Some, sym, ap, ◌∙◌, rules}
+use Rattle.std.specs.List.{slice_get}
 use Rattle.std.specs.Option.{option_map}
 use Rattle.bounded.specs.Held.{held}
 use Rattle.bounded.proofs.Mapped.{first_not, first_at, place_held}
@@ -12,10 +13,12 @@ returns-in_default g c =
     let q = of_saga c.args.saga in
     sym (ap (option_map view_of) (first_not q open_of (held c.args.self.now.rows) c.in_default.ensures))
 
-pub returns-in-Some-get : goal.returns-in-Some-get
-returns-in-Some-get g c =
+pub returns : goal.returns
+returns g c =
     let q = of_saga c.args.saga in
-    ap Some c.seen.ensures ∙ sym (ap (option_map view_of) (first_at q open_of (held c.args.self.now.rows) c.in-Some.place c.in-Some.ensures c.in-Some-get.open c.in-Some-get.ensures))
+    ap Some c.seen.ensures ∙ sym (ap (option_map view_of) (first_at q open_of (held c.args.self.now.rows) c.in-Some.place c.in-Some.ensures c.in_ok-open.open c.in_ok-open.ensures))
 
-pub returns-in-None : goal.returns-in-None
-returns-in-None g c = absurd (place_held (of_saga c.args.saga) open_of (held c.args.self.now.rows) c.in-Some.place c.in-Some.ensures c.in-None.ensures)
+pub returns-in_err-open : goal.returns-in_err-open
+returns-in_err-open g c =
+    let none : None ≡ slice_get (held c.args.self.now.rows) c.in-Some.place = search rules in
+    absurd (place_held (of_saga c.args.saga) open_of (held c.args.self.now.rows) c.in-Some.place c.in-Some.ensures none)
