@@ -10,7 +10,7 @@ use terms::{Level, Tag};
 /// The name T7: two bytes, and zero bytes up to eight.
 pub const T7: u64 = 0x5437_0000_0000_0000;
 
-// One function for each list: the theorem on the site names both.
+// One function for each list, so that a contract says what it lists.
 fn groups() -> [Level; 1]
     ensures { result ≡ record { value = 3; ceiling = 4 } ∷ [] }
 {
