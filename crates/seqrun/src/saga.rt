@@ -1,5 +1,6 @@
 //! One saga, taken through a bank and noted in a journal.
-ghost use Rattle.std.specs.Prelude.{◌≡◌, ◌↔◌, IsTrue, Any};
+ghost use Rattle.std.specs.Prelude.{◌≡◌, ◌⊎◌, ◌↔◌, IsTrue, Any};
+ghost use Rattle.terms.specs.Verbs.{verb_number};
 ghost use Rattle.seqrun.specs.declared.saga.Stop.TheVariants.{Journal};
 
 use crate::kind::Kind;
@@ -9,7 +10,7 @@ use journals::fault::JournalFault;
 use journals::traits::Journal;
 use law::event::{Event, Step};
 use participants::answer::Accepted;
-use terms::{Entry, Key, Refusal, Request};
+use terms::{Entry, Key, Refusal, Request, Verb};
 
 /// Why a saga goes no further.
 #[derive(Clone, Copy, PartialEq, Eq, Debug)]
@@ -28,6 +29,9 @@ impl From<JournalFault> for Stop {
 
 fn step_of(number: u8, request: Request) -> Step
     ensures number { result.number ≡ number }
+    ensures stock { (result.participant ≡ 1) ↔ ((request.verb ≡ verb_number Verb.Claim) ⊎ (request.verb ≡ verb_number Verb.Return)) }
+    ensures ledger { (result.participant ≡ 2) ↔ (request.verb ≡ verb_number Verb.Move) }
+    ensures others { result.participant ≡ 1 ⊎ (result.participant ≡ 2 ⊎ result.participant ≡ 3) }
     ensures request { result.request ≡ request }
 {
     Step {
