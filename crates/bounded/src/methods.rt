@@ -83,7 +83,7 @@ impl<T: Copy, const N: usize> Bounded<T, N> {
     }
 
     /// Takes out the item at i; those after it keep their order.
-    #[tactic(auto, using(crate::proofs::Fronts::front_rotated))]
+    #[tactic(auto, using(crate::proofs::Fronts::front_moved))]
     pub fn remove(&mut self, i: usize) -> Option<T>
         ensures answer { result ≡ slice_get (held self.old) i }
         ensures after { held self.new ≡ remove (held self.old) i }
@@ -93,7 +93,7 @@ impl<T: Copy, const N: usize> Bounded<T, N> {
         }
         let x = self.items[i];
         let all = &mut self.items[..];
-        all[i..self.len].rotate_left(1);
+        all.copy_within(i + 1..self.len, i);
         self.len -= 1;
         Some(x)
     }
