@@ -1,4 +1,4 @@
--- What is written of an event is read back.
+-- What is written of an event, or of nothing, is read back.
 use Rattle.std.proofs.Common.{◌≡◌, ℕ, Some, refl}
 use Rattle.terms.specs.declared.Refusal.{Refusal}
 use Rattle.terms.specs.declared.Refusal.TheVariants.{Unfit}
@@ -19,4 +19,4 @@ said_of s Begin = refl
 said_of s e = refl
 
 pub reads_back : ReadsBack
-reads_back = record { says = said; of_saga = said_of }
+reads_back = record { says = said; of_saga = said_of; says_nothing = λ s. refl; nothing_of_saga = λ s. refl }

@@ -84,7 +84,13 @@ record_of s (Undone k) = plain_record 8 s k 0 0
 record_of s Finish = plain_record 9 s 0 0 0
 record_of s (Settled k) = plain_record 10 s k 0 0
 
--- what is written is read back, of the same saga
+-- no event has the kind 0
+abbrev pub record_of_nothing : ℕ → Record
+record_of_nothing s = plain_record 0 s 0 0 0
+
+-- what is written is read back, of the same saga; what is written of nothing reads back as nothing
 pub record ReadsBack : Type 0 where
   pub says : (s : ℕ) (e : Event) → event_of (record_of s e) ≡ Some e
   pub of_saga : (s : ℕ) (e : Event) → (record_of s e).saga ≡ s
+  pub says_nothing : (s : ℕ) → event_of (record_of_nothing s) ≡ None
+  pub nothing_of_saga : (s : ℕ) → (record_of_nothing s).saga ≡ s

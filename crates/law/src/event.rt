@@ -1,6 +1,6 @@
 //! What a record says of its saga, and where a saga stands.
 ghost use Rattle.std.specs.Prelude.{◌≡◌};
-ghost use Rattle.law.specs.Events.{Says, IsKind, kind_number, record_of, no_request, only_step, plain_record, ReadsBack};
+ghost use Rattle.law.specs.Events.{Says, IsKind, kind_number, record_of, record_of_nothing, no_request, only_step, plain_record, ReadsBack};
 
 use record::Record;
 use terms::{Refusal, Request};
@@ -191,6 +191,21 @@ impl Event {
             Event::Undone(step) => plain(Kind::Undone, saga, step),
             Event::Finish => plain(Kind::Finish, saga, 0),
             Event::Settled(step) => plain(Kind::Settled, saga, step),
+        }
+    }
+}
+
+impl Unlawful {
+    /// The record that says nothing of a saga, by the kind 0, which no event has.
+    #[tactic(auto, using(crate::proofs::Said::reads_back))]
+    pub fn to_record(self, saga: u32) -> Record
+        ensures value { result ≡ record_of_nothing saga }
+        ensures law { ReadsBack }
+    {
+        Record {
+            kind: 0,
+            saga,
+            ..Record::default()
         }
     }
 }

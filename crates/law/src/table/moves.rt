@@ -1,7 +1,8 @@
 //! What records do to a table.
 ghost use Rattle.std.specs.Prelude.{◌≡◌, ℕ, ◌<◌, ◌≤◌, Bool, List, map, length, is_ok};
+ghost use Rattle.std.specs.Result.{result_ok};
 ghost use Rattle.bounded.specs.Held.{held};
-ghost use Rattle.law.specs.Sagas.{applied, begins, moves, noted, taken};
+ghost use Rattle.law.specs.Sagas.{applied_if, begins, moves, noted, taken};
 ghost use Rattle.law.specs.Tables.{sagas_of};
 
 use crate::event::{Event, Unlawful};
@@ -41,17 +42,18 @@ impl<V: Copy> Table<V> {
         Ok(())
     }
 
-    /// What the event makes of the saga in a bank of so many participants; one that is not lawful changes nothing. A saga
-    /// that begins has the note, and one that closes leaves the table.
+    /// What the event makes of the saga in a bank of so many participants. `Event::try_from` gives it: what says none, and
+    /// an event that is not lawful, changes nothing. A saga that begins has the note, and one that closes leaves the table.
     pub fn apply(
         &mut self,
         saga: u32,
-        event: Event,
+        event: Result<Event, Unlawful>,
         participants: u8,
         note: V,
     ) -> Result<(), Unlawful>
-        ensures { (is_ok result, sagas_of self.new) ≡ applied participants saga event note (sagas_of self.old) }
+        ensures { (is_ok result, sagas_of self.new) ≡ applied_if participants saga (result_ok event) note (sagas_of self.old) }
     {
+        let event = event?;
         match event {
             Event::Begin => self.begin(saga, note),
             _ => self.move_open(saga, event, participants),
@@ -62,8 +64,7 @@ impl<V: Copy> Table<V> {
     pub fn take(&mut self, record: Record, participants: u8, note: V) -> Result<(), Unlawful>
         ensures { (is_ok result, sagas_of self.new) ≡ taken participants note (sagas_of self.old) «record» }
     {
-        let event = Event::try_from(record)?;
-        self.apply(record.saga, event, participants, note)
+        self.apply(record.saga, Event::try_from(record), participants, note)
     }
 
     /// Another note for an open saga.

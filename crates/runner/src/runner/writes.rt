@@ -72,7 +72,7 @@ impl<J: Journal, B: Bank> Runner<J, B> {
             .append(event.to_record(saga))
             .map_err(|below| Unwritten { saga, below })?;
         if let Some(table) = &mut self.table {
-            let _ = table.apply(saga, event, self.bank.count(), None);
+            let _ = table.apply(saga, Ok(event), self.bank.count(), None);
         }
         Ok(())
     }
