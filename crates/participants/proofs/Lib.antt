@@ -3,4 +3,5 @@ pub mod Judged
 pub mod Sound
 pub mod Kept
 pub mod Once
+pub mod Over
 pub mod Opened

@@ -25,16 +25,18 @@ fn lower_cell(cell: Cell, q: &Request) -> Cell
     }
 }
 
-// Each value falls by what the request takes of its cell. A new list, here and in all_raised: lending the items for writing was
-// tried, and the list's ghost fields did not come back. Two loops: raising asks for room at each cell, lowering does not.
-fn all_lowered<const C: usize>(cells: &Bounded<Cell, C>, q: &Request) -> Bounded<Cell, C>
-    ensures { held result ≡ map (lowered q.now) (held cells.now) }
+// Each value falls by what the request takes of its cell. In place, here and in raise, so that a change costs the cells listed
+// and not the room for them; by index, since the items lent for writing were tried, and the list's ghost fields did not come
+// back. Two loops: raising asks for room at each cell, lowering does not.
+#[tactic(auto, using(crate::proofs::Over::over_more, crate::proofs::Over::over_never, crate::proofs::Over::over_end))]
+fn lower<const C: usize>(cells: &mut Bounded<Cell, C>, q: &Request)
+    ensures { held cells.new ≡ map (lowered q.now) (held cells.old) }
 {
-    let mut low = Bounded::new(Cell::default());
-    for cell in cells.as_slice() {
-        let _ = low.push(lower_cell(*cell, q));
+    for i in 0..cells.len() {
+        if let Some(cell) = cells.get(i) {
+            let _ = cells.set(i, lower_cell(cell, q));
+        }
     }
-    low
 }
 
 fn raise_cell(cell: Cell, side: Side, q: &Request) -> Cell
@@ -48,16 +50,16 @@ fn raise_cell(cell: Cell, side: Side, q: &Request) -> Cell
 }
 
 // Each value grows by one side of the request's effect on its cell.
-#[tactic(auto, using(crate::proofs::Cells::raisable_at))]
-fn all_raised<const C: usize>(cells: &Bounded<Cell, C>, side: Side, q: &Request) -> Bounded<Cell, C>
-    requires { Raisable side q.now (held cells.now) }
-    ensures { held result ≡ map (raised side q.now) (held cells.now) }
+#[tactic(auto, using(crate::proofs::Over::over_more, crate::proofs::Over::over_never, crate::proofs::Over::over_end, crate::proofs::Cells::raisable_read))]
+fn raise<const C: usize>(cells: &mut Bounded<Cell, C>, side: Side, q: &Request)
+    requires { Raisable side q.now (held cells.old) }
+    ensures { held cells.new ≡ map (raised side q.now) (held cells.old) }
 {
-    let mut high = Bounded::new(Cell::default());
-    for cell in cells.as_slice() {
-        let _ = high.push(raise_cell(*cell, side, q));
+    for i in 0..cells.len() {
+        if let Some(cell) = cells.get(i) {
+            let _ = cells.set(i, raise_cell(cell, side, q));
+        }
     }
-    high
 }
 
 impl<const C: usize> Book<C> {
@@ -90,7 +92,7 @@ impl<const C: usize> Book<C> {
         let Some(entry) = self.entries.get(i) else {
             return false;
         };
-        self.cells = all_raised(&self.cells, side, &entry.request);
+        raise(&mut self.cells, side, &entry.request);
         self.entries.remove(i);
         true
     }
@@ -109,7 +111,7 @@ impl<const C: usize> Participant for Book<C> {
     fn perform(&mut self, entry: Entry) -> Answer {
         let accepted = self.judge(&entry)?;
         if let Accepted::Done = accepted {
-            self.cells = all_lowered(&self.cells, &entry.request);
+            lower(&mut self.cells, &entry.request);
             // The judge saw room for it.
             let _ = self.entries.push(entry);
         }
