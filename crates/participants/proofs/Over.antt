@@ -6,7 +6,7 @@ use Rattle.std.proofs.lemmas.List.Edits.{map_over_more}
 use Rattle.std.proofs.lemmas.Option.{slice_get_cases, get_or_from_slice_get}
 
 module _ {X : Type 0} (f : X → X) (xs ys : List X) (i : ℕ) (so_far : ys ≡ map f (take i xs) ++ drop i xs) where
-  over_length : i ≤ length xs → length ys ≡ length xs
+  pub over_length : i ≤ length xs → length ys ≡ length xs
   over_length h = ap length so_far ∙ length-append (map f (take i xs)) (drop i xs) ∙ omega (arith, length-map (take i xs) f, length-take-le i xs h, length-drop i xs)
 
   pub over_end : length xs ≤ i → ys ≡ map f xs
