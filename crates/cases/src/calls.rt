@@ -30,15 +30,20 @@ mod tests {
     use site::example::T7;
     use site::site_bank::SiteBank;
     use std::test::Fail;
-    use terms::{Refusal, Verb};
+    use terms::Verb;
 
     fn asks(saga: u32, step: u8, verb: Verb, amount: u32, cell: u64) -> Entry {
         ask(saga, step, u8::from(verb), amount, cell)
     }
 
-    const DONE: Answer = Ok(Accepted::Done);
+    // A refusal is compared by its number.
+    fn told(answer: Answer) -> Result<Accepted, u16> {
+        answer.map_err(|refusal| u16::from(refusal))
+    }
 
-    const ALREADY: Answer = Ok(Accepted::Already);
+    const DONE: Result<Accepted, u16> = Ok(Accepted::Done);
+
+    const ALREADY: Result<Accepted, u16> = Ok(Accepted::Already);
 
     fn site() -> Result<SiteBank, Fail> {
         example::site().map_err(|_| Fail::new("no site"))
@@ -48,25 +53,28 @@ mod tests {
     fn claims_and_returns(rt: HostRuntime) -> Result<(), Fail> {
         let mut bank = site()?;
         assert_eq!(rt;
-            bank.perform(1, asks(5, 1, Verb::Claim, 4, 1)),
-            Err(Refusal::Short)
+            told(bank.perform(1, asks(5, 1, Verb::Claim, 4, 1))),
+            Err(43)
         );
         assert_eq!(rt;
-            bank.perform(1, asks(5, 1, Verb::Return, 2, 1)),
-            Err(Refusal::Above)
+            told(bank.perform(1, asks(5, 1, Verb::Return, 2, 1))),
+            Err(44)
         );
-        assert_eq!(rt; bank.perform(1, asks(5, 1, Verb::Claim, 3, 1)), DONE);
+        assert_eq!(rt; told(bank.perform(1, asks(5, 1, Verb::Claim, 3, 1))), DONE);
         assert_eq!(rt; bank.value(1, 1), Some(0));
-        assert_eq!(rt; bank.perform(1, asks(5, 1, Verb::Claim, 3, 1)), ALREADY);
         assert_eq!(rt;
-            bank.perform(1, asks(5, 1, Verb::Claim, 2, 1)),
-            Err(Refusal::OtherRequest)
+            told(bank.perform(1, asks(5, 1, Verb::Claim, 3, 1))),
+            ALREADY
         );
         assert_eq!(rt;
-            bank.perform(1, asks(6, 1, Verb::Return, 2, 1)),
-            Err(Refusal::Above)
+            told(bank.perform(1, asks(5, 1, Verb::Claim, 2, 1))),
+            Err(41)
         );
-        assert_eq!(rt; bank.perform(1, asks(6, 1, Verb::Return, 1, 1)), DONE);
+        assert_eq!(rt;
+            told(bank.perform(1, asks(6, 1, Verb::Return, 2, 1))),
+            Err(44)
+        );
+        assert_eq!(rt; told(bank.perform(1, asks(6, 1, Verb::Return, 1, 1))), DONE);
         Ok(())
     }
 
@@ -74,7 +82,7 @@ mod tests {
     fn undone_once(rt: HostRuntime) -> Result<(), Fail> {
         let mut bank = site()?;
         let key = Key { saga: 5, step: 1 };
-        assert_eq!(rt; bank.perform(1, asks(5, 1, Verb::Claim, 3, 1)), DONE);
+        assert_eq!(rt; told(bank.perform(1, asks(5, 1, Verb::Claim, 3, 1))), DONE);
         assert_eq!(rt; bank.undo(1, key), true);
         assert_eq!(rt; bank.undo(1, key), false);
         assert_eq!(rt; bank.value(1, 1), Some(3));
@@ -85,7 +93,7 @@ mod tests {
     fn settled_once(rt: HostRuntime) -> Result<(), Fail> {
         let mut bank = site()?;
         let key = Key { saga: 5, step: 1 };
-        assert_eq!(rt; bank.perform(1, asks(5, 1, Verb::Return, 1, 1)), DONE);
+        assert_eq!(rt; told(bank.perform(1, asks(5, 1, Verb::Return, 1, 1))), DONE);
         assert_eq!(rt; bank.value(1, 1), Some(3));
         assert_eq!(rt; bank.settle(1, key), true);
         assert_eq!(rt; bank.settle(1, key), false);
@@ -96,18 +104,18 @@ mod tests {
     #[test]
     fn a_tag_hangs_once(rt: HostRuntime) -> Result<(), Fail> {
         let mut bank = site()?;
-        assert_eq!(rt; bank.perform(3, asks(5, 1, Verb::Hang, 1, T7)), DONE);
+        assert_eq!(rt; told(bank.perform(3, asks(5, 1, Verb::Hang, 1, T7))), DONE);
         assert_eq!(rt;
-            bank.perform(3, asks(5, 2, Verb::Lift, 1, T7)),
-            Err(Refusal::Above)
+            told(bank.perform(3, asks(5, 2, Verb::Lift, 1, T7))),
+            Err(44)
         );
         assert_eq!(rt;
-            bank.perform(3, asks(6, 1, Verb::Hang, 1, T7)),
-            Err(Refusal::Short)
+            told(bank.perform(3, asks(6, 1, Verb::Hang, 1, T7))),
+            Err(43)
         );
         assert_eq!(rt;
-            bank.perform(4, asks(6, 1, Verb::Hang, 1, T7)),
-            Err(Refusal::Unfit)
+            told(bank.perform(4, asks(6, 1, Verb::Hang, 1, T7))),
+            Err(40)
         );
         assert_eq!(rt; bank.stands(3, Key { saga: 5, step: 1 }), true);
         Ok(())
